@@ -17,16 +17,14 @@ Among r (x ∷ xs) = (x ≡ r) ⊎ Among r xs
 
 pub among_from : (xs : List Rule) (r : Rule) → Contains xs r → Among r xs
 among_from [] r (k, l, e) = absurd (omega arith)
-among_from (x ∷ xs) r (k, l, e) = at (λ c. among_from xs r c) k l e
+among_from (x ∷ xs) r (k, l, e) = at (among_from xs r) k l e
   where
     at : (Contains xs r → Among r xs) → (k : ℕ) → k < length (x ∷ xs) → get_or (x ∷ xs) k r ≡ r → (x ≡ r) ⊎ Among r xs
     at h1 k h2 h3 = grind arith
 
 pub contains_from : (xs : List Rule) (r : Rule) → Among r xs → Contains xs r
 contains_from [] r a = absurd a
-contains_from (x ∷ xs) r a = ⊎_elim
-    (λ e. (0, omega arith, e))
-    (λ b. let c = contains_from xs r b in (suc c.0, (let l = c.1 in omega arith), c.2)) a
+contains_from (x ∷ xs) r a = ⊎_elim (λ e. (0, omega arith, e)) (λ b. let c = contains_from xs r b in (suc c.0, omega arith, c.2)) a
 
 abbrev pub rule_of : ℕ → ℕ → Rule
 rule_of key number = record { key = key; number = number }
@@ -49,11 +47,10 @@ rules_sound d n (e ∷ es) r a = at (eqb (table_digit e.table) d) refl (rules_so
     later i = record {
       place = suc i.place;
       entry = i.entry;
-      number = (let f = i.number in omega arith);
+      number = omega arith;
       is = i.is;
       key = i.key;
-      of_table =
-          i.of_table;
+      of_table = i.of_table;
     }
 
     here : table_digit e.table ≡ d → record { key = key_of e; number = n } ≡ r → IsRuleOf d n (e ∷ es) r
@@ -61,8 +58,7 @@ rules_sound d n (e ∷ es) r a = at (eqb (table_digit e.table) d) refl (rules_so
       place = 0;
       entry = e;
       number = (let f : n ≡ r.number = ap (λ (x : Rule). x.number) is in omega arith);
-      is =
-          refl;
+      is = refl;
       key = ap (λ (x : Rule). x.key) is;
       of_table = t;
     }
@@ -95,17 +91,16 @@ itself last r rs e = record {
   rule = last;
   among = inl refl;
   key = ap (λ (x : Rule). x.key) e;
-  number =
-      (let f : last.number ≡ r.number = ap (λ (x : Rule). x.number) e in omega arith);
+  number = (let f : last.number ≡ r.number = ap (λ (x : Rule). x.number) e in omega arith);
 }
 
 -- what stands for a rule stands for one that it stands for
 stands_for : (xs : List Rule) (r q : Rule) → q.key ≡ r.key → r.number ≤ q.number → Stands xs q → Stands xs r
-stands_for xs r q key number i = record { rule = i.rule; among = i.among; key = i.key ∙ key; number = (let f = i.number in omega arith) }
+stands_for xs r q key number i = record { rule = i.rule; among = i.among; key = i.key ∙ key; number = omega arith }
 
 none_lost : (last : Rule) (rs : List Rule) (r : Rule) → Among r (last ∷ rs) → Stands (newest_from last rs) r
-none_lost last [] r a = ⊎_elim (itself last r []) (λ n. absurd n) a
-none_lost last (s ∷ rs) r a = at (λ m q b. none_lost m rs q b) (eqb s.key last.key) refl
+none_lost last [] r a = ⊎_elim (itself last r []) absurd a
+none_lost last (s ∷ rs) r a = at (λ m. none_lost m rs) (eqb s.key last.key) refl
   where
     at : ((m q : Rule) → Among q (m ∷ rs) → Stands (newest_from m rs) q) → (b : Bool) → eqb s.key last.key ≡ b
         → Stands (cond b (newest_from (joined last s) rs) (last ∷ newest_from s rs)) r
@@ -114,12 +109,12 @@ none_lost last (s ∷ rs) r a = at (λ m q b. none_lost m rs q b) (eqb s.key las
         let here = ih (joined last s) (joined last s) (inl refl) in
         ⊎_elim
         (λ is. let n : last.number ≡ r.number = ap (λ (x : Rule). x.number) is in
-        stands_for _ r (joined last s) (ap (λ (x : Rule). x.key) is) (omega arith) here)
+        stands_for _ r _ (ap (λ (x : Rule). x.key) is) (omega arith) here)
         (λ b. ⊎_elim
         (λ is. let n : s.number ≡ r.number = ap (λ (x : Rule). x.number) is in
-        stands_for _ r (joined last s) (sym same ∙ ap (λ (x : Rule). x.key) is) (omega arith) here)
+        stands_for _ r _ (sym same ∙ ap (λ (x : Rule). x.key) is) (omega arith) here)
         (λ more. ih (joined last s) r (inr more)) b) a
-    at ih false e = ⊎_elim (itself last r (newest_from s rs))
+    at ih false e = ⊎_elim (itself last r _)
         (λ b. let i = ih s r b in record { rule = i.rule; among = inr i.among; key = i.key; number = i.number }) a
 
 -- the greater number is one of the two
@@ -128,7 +123,7 @@ one_of_two last s r rs same e = grind arith
 
 none_new : (last : Rule) (rs : List Rule) (r : Rule) → Among r (newest_from last rs) → Among r (last ∷ rs)
 none_new last [] r a = a
-none_new last (s ∷ rs) r a = at (λ m b. none_new m rs r b) (eqb s.key last.key) refl a
+none_new last (s ∷ rs) r a = at (λ m. none_new m rs r) (eqb s.key last.key) refl a
   where
     at : ((m : Rule) → Among r (newest_from m rs) → Among r (m ∷ rs)) → (b : Bool) → eqb s.key last.key ≡ b
         → Among r (cond b (newest_from (joined last s) rs) (last ∷ newest_from s rs)) → Among r (last ∷ s ∷ rs)
@@ -147,26 +142,24 @@ rises_from : (x : Rule) (xs : List Rule) → IsNonDecreasingBy (λ r. r.key) (x 
 rises_from x [] up = tt
 rises_from x (y ∷ ys) up = (
   up 0 1 x (omega arith) (omega arith),
-  rises_from y ys
-      (λ i j d le l. up (suc i) (suc j) d (omega arith) (omega arith)),
+  rises_from y ys (λ i j d le l. up (suc i) (suc j) d (omega arith) (omega arith)),
 )
 
 above_all : (k : ℕ) (xs : List Rule) → RisesAbove k xs → All (λ r. k < r.key) xs
-above_all k [] up = All-nil (λ r. k < r.key)
-above_all k (x ∷ xs) up =
-    All-cons (λ r. k < r.key) x xs up.0 (above_all k xs (lower k x.key xs up.0 up.1))
+above_all k [] up = All-nil _
+above_all k (x ∷ xs) up = All-cons (λ r. k < r.key) x xs up.0 (above_all k xs (lower k x.key xs up.0 up.1))
   where
     lower : (j k : ℕ) (xs : List Rule) → j < k → RisesAbove k xs → RisesAbove j xs
     lower j k [] l up = tt
-    lower j k (x ∷ xs) l up = ((let f = up.0 in omega arith), up.1)
+    lower j k (x ∷ xs) l up = ((omega arith), up.1)
 
 rising_from : (k : ℕ) (xs : List Rule) → RisesAbove k xs → IsRising xs
 rising_from k [] up = λ i j d less l. absurd (omega arith)
-rising_from k (x ∷ xs) up = AllPairs-cons (λ x y. x.key < y.key) x xs (above_all x.key xs up.1) (rising_from x.key xs up.1)
+rising_from k (x ∷ xs) up = AllPairs-cons (λ x y. x.key < y.key) x xs (above_all _ xs up.1) (rising_from _ xs up.1)
 
 newest_rises : (j : ℕ) (last : Rule) (rs : List Rule) → j < last.key → RisesFrom last.key rs → RisesAbove j (newest_from last rs)
 newest_rises j last [] l up = (l, tt)
-newest_rises j last (s ∷ rs) l up = at (λ j m l up. newest_rises j m rs l up) (eqb s.key last.key) refl
+newest_rises j last (s ∷ rs) l up = at (λ j m. newest_rises j m rs) (eqb s.key last.key) refl
   where
     at : ((j : ℕ) (m : Rule) → j < m.key → RisesFrom m.key rs → RisesAbove j (newest_from m rs)) → (b : Bool) → eqb s.key last.key ≡ b
         → RisesAbove j (cond b (newest_from (joined last s) rs) (last ∷ newest_from s rs))
@@ -178,7 +171,7 @@ RisesAt k (x ∷ xs) = (x.key ≡ k) × RisesAbove x.key xs
 
 newest_rises_at : (last : Rule) (rs : List Rule) → RisesFrom last.key rs → RisesAt last.key (newest_from last rs)
 newest_rises_at last [] up = (refl, tt)
-newest_rises_at last (s ∷ rs) up = at (λ m up. newest_rises_at m rs up) (eqb s.key last.key) refl
+newest_rises_at last (s ∷ rs) up = at (λ m. newest_rises_at m rs) (eqb s.key last.key) refl
   where
     at : ((m : Rule) → RisesFrom m.key rs → RisesAt m.key (newest_from m rs)) → (b : Bool) → eqb s.key last.key ≡ b
         → RisesAt last.key (cond b (newest_from (joined last s) rs) (last ∷ newest_from s rs))
@@ -186,10 +179,10 @@ newest_rises_at last (s ∷ rs) up = at (λ m up. newest_rises_at m rs up) (eqb 
 
 rising_at : (k : ℕ) (xs : List Rule) → RisesAt k xs → IsRising xs
 rising_at k [] up = λ i j d less l. absurd (omega arith)
-rising_at k (x ∷ xs) up = AllPairs-cons (λ x y. x.key < y.key) x xs (above_all x.key xs up.1) (rising_from x.key xs up.1)
+rising_at k (x ∷ xs) up = AllPairs-cons (λ x y. x.key < y.key) x xs (above_all _ xs up.1) (rising_from _ xs up.1)
 
 pub rising_after : (x : Rule) (xs : List Rule) → RisesAbove x.key xs → IsRising (x ∷ xs)
-rising_after x xs up = rising_at x.key (x ∷ xs) (refl, up)
+rising_after x xs up = rising_at _ (x ∷ xs) (refl, up)
 
 -- where keys rise each is the newest already
 newest_after : (x : Rule) (xs : List Rule) → IsRising (x ∷ xs) → newest_from x xs ≡ x ∷ xs
@@ -201,12 +194,11 @@ newest_after x (y ∷ ys) up = at (newest_after y ys (λ i j d less l. up (suc i
         → cond b (newest_from (joined x y) ys) (x ∷ newest_from y ys) ≡ x ∷ y ∷ ys
     at ih true e =
         let same : y.key ≡ x.key = grind (arith, nat_tests) in
-        let less = up 0 1 x (omega arith) (omega arith) in
-        absurd (omega (arith, same, less))
-    at ih false e = ap (λ (zs : List Rule). x ∷ zs) ih
+        absurd (omega (arith, same, up 0 1 x (omega arith) (omega arith)))
+    at ih false e = ap (λ zs. x ∷ zs) ih
 
 pub rising_order : (xs : List Rule) → IsRising xs → IsNonDecreasingBy (λ (r : Rule). r.key) xs
-rising_order xs up i j d le l = ⊎_elim (λ less. let h = up i j d less l in omega (arith, h))
+rising_order xs up i j d le l = ⊎_elim (λ less. omega (arith, up i j d less l))
     (λ ge. let same : i ≡ j = omega arith in subst (λ k. (get_or xs i d).key ≤ (get_or xs k d).key) same (omega arith)) (cases_lt i j)
 
 pub newest_rising : (xs : List Rule) → IsRising xs → newest_of_each xs ≡ xs
@@ -216,7 +208,7 @@ newest_rising (x ∷ xs) up = newest_after x xs up
 -- the newest of each key, in the order of their keys
 pub each_rises : (xs : List Rule) → IsNonDecreasingBy (λ r. r.key) xs → IsRising (newest_of_each xs)
 each_rises [] up = λ i j d less l. absurd (omega arith)
-each_rises (x ∷ xs) up = rising_at x.key (newest_from x xs) (newest_rises_at x xs (rises_from x xs up))
+each_rises (x ∷ xs) up = rising_at _ _ (newest_rises_at x xs (rises_from x xs up))
 
 pub each_old : (xs : List Rule) (r : Rule) → Among r (newest_of_each xs) → Among r xs
 each_old xs r h1 = grind (arith, none_new)
@@ -231,24 +223,22 @@ is_index table entries sorted keyed p = record { sound = sound; complete = compl
   where
     sound : (r : Rule) → Contains (newest_of_each sorted) r → IsEntryRule table entries r
     sound r c =
-        let old : Contains sorted r = contains_from sorted r (each_old sorted r (among_from (newest_of_each sorted) r c)) in
         let found = rules_sound (table_digit table) 0 entries r
-        (among_from _ r (Contains-permutation sorted _ r (IsPermutation-sym _ sorted p) old)) in
-        let at : found.place ≡ r.number = let e = found.number in omega arith in
-        let is = subst (λ k. slice_get entries k ≡ Some found.entry) at found.is in (
+        (among_from _ r (Contains-permutation sorted _ r (IsPermutation-sym _ sorted p)
+        (contains_from sorted r (each_old sorted r (among_from (newest_of_each sorted) r c))))) in
+        let is = subst (λ k. slice_get entries k ≡ Some found.entry) (let e = found.number in omega arith) found.is in (
           found.entry,
           is,
           found.key,
           table_of_digit found.entry.table table found.of_table,
-          keyed_at
-              (λ (e : Entry). AreDigits most_places e.places) entries r.number found.entry keyed is,
+          keyed_at (λ e. AreDigits most_places e.places) entries r.number found.entry keyed is,
         )
 
     complete : (n : ℕ) (e : Entry) → slice_get entries n ≡ Some e → e.table ≡ table → (r : Rule) × Contains (newest_of_each sorted) r
         × (r.key ≡ key_of e) × (n ≤ r.number)
     complete n e is t =
         let rule = rule_of (key_of e) (0 + n) in
-        let old : Contains sorted rule = Contains-permutation _ sorted rule p
-        (contains_from _ rule (rules_complete (table_digit table) 0 entries n e is (ap table_digit t))) in
-        let stands = each_kept sorted rule (among_from sorted _ old) in
-        (stands.rule, contains_from (newest_of_each sorted) stands.rule stands.among, stands.key, (let l = stands.number in omega arith))
+        let stands = each_kept sorted rule (among_from sorted _
+        (Contains-permutation _ sorted rule p (contains_from _ rule
+        (rules_complete (table_digit table) 0 entries n e is (ap table_digit t))))) in
+        (stands.rule, contains_from (newest_of_each sorted) stands.rule stands.among, stands.key, omega arith)

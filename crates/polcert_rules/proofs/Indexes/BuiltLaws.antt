@@ -25,7 +25,7 @@ module _ (given : TableEntries) where
   width = given.bodies.shape.columns
 
   kept_stays : (f : ℕ → ℕ) (old new : List (List Cell)) (n : ℕ) → Stays old new → IsKeptRow width f old n → IsKeptRow width f new n
-  kept_stays f old new n stays k = record { row = k.row; is = stays n k.row k.is; each = k.each }
+  kept_stays f old new n stays k = record { row = _; is = stays n _ k.is; each = k.each }
 
   -- ---- the rows of an action
   pub line_none : (a : ℕ) (rows : List (List Cell)) (numbers : List ℕ) → numbers ≡ [] → AreLine given a 0 rows numbers
@@ -35,8 +35,8 @@ module _ (given : TableEntries) where
       → AreLine given a count new numbers
   line_stays a count old new numbers stays h = record {
     size = h.size;
-    within = numbers_stay numbers old new stays h.within;
-    each = λ s l. kept_stays (weights_at given a s) old new _ stays (h.each s l);
+    within = numbers_stay _ old new stays h.within;
+    each = λ s l. kept_stays _ old new _ stays (h.each s l);
     proper = h.proper;
   }
 
@@ -44,14 +44,13 @@ module _ (given : TableEntries) where
       → IsKeptRow width (weights_at given a s) new n → HasScale given a s
       → longer ≡ numbers ++ n ∷ [] → AreLine given a (s + 1) new longer
   line_more a s n old new numbers longer h stays here scale e =
-      let now = line_stays a s old new numbers stays h in
+      let now = line_stays a s old new _ stays h in
       record {
-        size = ap length e ∙ length-append numbers (n ∷ []) ∙ ap (λ k. k + 1) h.size;
-        within = subst (λ (xs : List ℕ). All (λ n. n < length new) xs) (sym e)
-            (All-push (λ n. n < length new) numbers n now.within (row_within width (weights_at given a s) new n here));
-        each = λ t l. ⊎_elim (λ less. old_row now.each t less) (λ ge. new_row t (omega arith)) (cases_lt t s);
-        proper = λ t l. ⊎_elim (λ less. h.proper t less) (λ ge. let same : s ≡ t = omega arith in subst (HasScale given a) same scale)
-            (cases_lt t s);
+        size = ap length e ∙ length-append _ _ ∙ ap (λ k. k + 1) h.size;
+        within = subst (λ xs. All (λ n. n < length new) xs) (sym e)
+            (All-push (λ n. n < length new) _ n now.within (row_within _ _ new n here));
+        each = λ t l. ⊎_elim (old_row now.each t) (λ ge. new_row t (omega arith)) (cases_lt t s);
+        proper = λ t l. ⊎_elim (h.proper t) (λ ge. subst (HasScale given a) (omega arith) scale) (cases_lt t s);
       }
     where
       old_row : ((t : ℕ) → t < s → IsKeptRow width (weights_at given a t) new (slice_index numbers t)) → (t : ℕ) → t < s
@@ -67,18 +66,16 @@ module _ (given : TableEntries) where
       → IsRow width (weights_at given a s) (slice_index_or rows (slice_index numbers s) [])
   line_row a s count rows numbers h sparse l =
       let k = h.each s l in
-      let found : slice_index_or rows (slice_index numbers s) [] ≡ k.row =
-      get_or_from_slice_get rows (slice_index numbers s) k.row [] k.is in
-      subst (λ (xs : List Cell). IsRow width (weights_at given a s) xs) (sym found)
-      (record { sparse = at_number (IsSparse width) rows _ k.row sparse k.is; each = k.each })
+      subst (λ xs. IsRow width (weights_at given a s) xs) (sym (get_or_from_slice_get rows (slice_index numbers s) k.row [] k.is))
+      (record { sparse = at_number (IsSparse width) rows _ _ sparse k.is; each = k.each })
 
   -- it sums to its scale
   pub line_scale : (a s count : ℕ) (rows : List (List Cell)) (numbers : List ℕ) → AreLine given a count rows numbers
       → All (IsSparse width) rows → s < count
       → sum_of_weights (slice_index_or rows (slice_index numbers s) []) ≡ one * width
   line_scale a s count rows numbers h sparse l =
-      let row = line_row a s count rows numbers h sparse l in
-      sum_is width _ row.sparse ∙ sum_same _ _ width row.each ∙ h.proper s l
+      let row = line_row a s _ rows _ h sparse l in
+      sum_is _ _ row.sparse ∙ sum_same _ _ _ row.each ∙ h.proper s l
 
   -- ---- the rows of the first actions
   pub lines_none : (rows : List (List Cell)) (numbers : List (List ℕ)) → numbers ≡ [] → AreLines given 0 rows numbers
@@ -88,16 +85,15 @@ module _ (given : TableEntries) where
       → Stays old new → AreLine given a given.bodies.shape.states new line
       → longer ≡ numbers ++ line ∷ [] → AreLines given (a + 1) new longer
   lines_more a old new numbers longer line h stays here e = record {
-    size = ap length e ∙ length-append numbers (line ∷ []) ∙ ap (λ k. k + 1) h.size;
-    each = λ b l. ⊎_elim (λ less. old_line b less) (λ ge. new_line b (omega arith)) (cases_lt b a);
+    size = ap length e ∙ length-append _ _ ∙ ap (λ k. k + 1) h.size;
+    each = λ b l. ⊎_elim (old_line b) (λ ge. new_line b (omega arith)) (cases_lt b a);
   }
     where
       old_line : (b : ℕ) → b < a → AreLine given b given.bodies.shape.states new (slice_index_or longer b [])
       old_line b less =
-          let size = h.size in
-          let same : slice_index_or numbers b [] ≡ slice_index_or longer b [] =
-          sym (ap (λ (xs : List (List ℕ)). get_or xs b []) e ∙ get_or_append_left numbers (line ∷ []) [] b (omega arith)) in
-          subst (AreLine given b given.bodies.shape.states new) same (line_stays b _ old new _ stays (h.each b less))
+          subst (AreLine given b given.bodies.shape.states new)
+          (sym (ap (λ (xs : List (List ℕ)). get_or xs b []) e ∙ get_or_append_left numbers (line ∷ []) [] b (omega arith)))
+          (line_stays b _ old new _ stays (h.each b less))
 
       new_line : (b : ℕ) → b ≡ a → AreLine given b given.bodies.shape.states new (slice_index_or longer b [])
       new_line b at = grind (arith, get_or-append_seam)
@@ -108,8 +104,7 @@ module _ (given : TableEntries) where
 
   pub all_scale : (count : ℕ) (rows : List (List Cell)) (numbers : List (List ℕ)) → count ≡ given.bodies.shape.actions
       → AreLines given count rows numbers → All (IsSparse width) rows → HaveScale given.bodies.shape rows numbers
-  all_scale count rows numbers e h sparse a s l m = line_scale a s given.bodies.shape.states rows (slice_index_or numbers a [])
-      (h.each a (omega (arith, e, l))) sparse m
+  all_scale count rows numbers e h sparse a s l m = line_scale a s _ rows _ (h.each a (omega (arith, e, l))) sparse m
 
   -- ---- an action that no entry tells from the one before
   module _ (sound : AreIndexedEntries given) where
@@ -118,8 +113,8 @@ module _ (given : TableEntries) where
     line_before a rows numbers same la h = record {
       size = h.size;
       within = h.within;
-      each = λ s l. let k = h.each s l in record { row = k.row; is = k.is; each = λ c m. k.each c m ∙ as_before s c l m };
-      proper = λ s l. sym (sum_same _ _ width (λ c m. as_before s c l m)) ∙ h.proper s l;
+      each = λ s l. let k = h.each s l in record { row = _; is = k.is; each = λ c m. k.each c m ∙ as_before s c l m };
+      proper = λ s l. sym (sum_same _ _ _ (λ c m. as_before s c l m)) ∙ h.proper s l;
     }
       where
         as_before : (s c : ℕ) → s < given.bodies.shape.states → c < width → weights_at given (a - 1) s c ≡ weights_at given a s c
@@ -129,18 +124,15 @@ module _ (given : TableEntries) where
         → a + 2 < key_base → AreLines given a rows numbers
         → longer ≡ numbers ++ slice_index_or numbers (length numbers - 1) [] ∷ [] → AreLines given (a + 1) rows longer
     lines_before a rows numbers longer same la h e =
-        let some = same.some in
-        let size = h.size in
-        let last = subst (λ n. AreLine given (a - 1) given.bodies.shape.states rows (slice_index_or numbers (n - 1) [])) (sym size)
-        (h.each (a - 1) (omega (arith, some))) in
-        lines_more a rows rows numbers longer (slice_index_or numbers (length numbers - 1) []) h (λ n row i. i)
+        let last = subst (λ n. AreLine given (a - 1) given.bodies.shape.states rows (slice_index_or numbers (n - 1) [])) (sym h.size)
+        (h.each (a - 1) (omega (arith, same.some))) in
+        lines_more a rows rows _ _ _ h (λ n row i. i)
         (line_before a rows _ same la last) e
 
     -- ---- sums, under any preamble of the shape
     module _ (p : Preamble) (is : IsShapeOf p given.table given.bodies.shape) where
       pub same_weights : (a s c : ℕ) → weights_at given a s c ≡ weight p given.bodies.entries.now given.table (a ∷ s ∷ c ∷ [])
-      same_weights a s c = weight_is sound.preamble given.table given.bodies.shape given.bodies.entries.now sound.weighted sound.shape
-          sound.sound.each p a s c is
+      same_weights a s c = weight_is sound.preamble _ _ given.bodies.entries.now sound.weighted sound.shape sound.sound.each p a s c is
 
       pub to_proper : (a s : ℕ) → HasScale given a s → GivesProperRow p given.bodies.entries.now given.table a s
       to_proper a s h = grind (arith, sum_same, same_weights)
@@ -152,17 +144,14 @@ module _ (given : TableEntries) where
           → a < given.bodies.shape.actions → IsFirstWrongIn given a x
           → IsFirstWrongEntryRow p given.bodies.entries.now given.table x
       wrong_row a rows numbers x h l w =
-          let actions = is.actions in
-          let states = is.states in
           let here = w.action_is in
-          let room = w.state in
           record {
             table_is = w.table_is;
-            action = omega (arith, l, here, actions);
-            state = omega (arith, room, states);
-            wrong = λ proper. w.wrong (of_proper a x.row (subst (λ b. GivesProperRow p given.bodies.entries.now given.table b x.row) here
+            action = omega (arith, l, here, is.actions);
+            state = omega (arith, w.state, is.states);
+            wrong = λ proper. w.wrong (of_proper a _ (subst (λ b. GivesProperRow p given.bodies.entries.now given.table b x.row) here
                 proper));
-            earlier_actions = λ b r less m. to_proper b r ((h.each b (omega (arith, less, here))).proper r (omega (arith, m, states)));
+            earlier_actions = λ b r less m. to_proper b r ((h.each b (omega (arith, less, here))).proper r (omega (arith, m, is.states)));
             same_action = λ r less. subst (λ b. GivesProperRow p given.bodies.entries.now given.table b r) (sym here)
                 (to_proper a r (w.before r less));
           }
@@ -174,16 +163,14 @@ module _ (given : TableEntries) where
           → IsRow width (λ c. weight p given.bodies.entries.now given.table (a ∷ s ∷ c ∷ []))
           (slice_index_or rows (slice_index (slice_index_or numbers a []) s) [])
       lines_rows count rows numbers e h sparse a s l m =
-          row_same width _ _ _ (λ c n. same_weights a s c) (line_row a s given.bodies.shape.states rows (slice_index_or numbers a [])
+          row_same _ _ _ _ (λ c n. same_weights a s c) (line_row a s given.bodies.shape.states rows (slice_index_or numbers a [])
           (h.each a (omega (arith, e, l))) sparse m)
 
       pub lines_proper : (count : ℕ) (rows : List (List Cell)) (numbers : List (List ℕ)) → count ≡ given.bodies.shape.actions
           → AreLines given count rows numbers
           → AreProperRows p given.bodies.entries.now given.table
       lines_proper count rows numbers e h a s l m =
-          let actions = is.actions in
-          let states = is.states in
-          to_proper a s ((h.each a (omega (arith, e, l, actions))).proper s (omega (arith, m, states)))
+          to_proper a s ((h.each a (omega (arith, e, l, is.actions))).proper s (omega (arith, m, is.states)))
 
 -- sound entries, and what is found among them
 pub given_is : (given : TableEntries) (rules : List Rule) → IsWeighted given.table → (p : Preamble)
@@ -199,11 +186,11 @@ given_is given rs weighted sound index same rising zeros others wholes exact = r
   shape = sound.1;
   sound = sound.2;
   index = index;
-  split = subst (λ (xs : List Rule). IsSplit given.bodies.entries.now xs given.split.now) same
-      (split_is given.bodies.entries.now rs given.split.now rising zeros others wholes exact);
+  split = subst (λ xs. IsSplit given.bodies.entries.now xs given.split.now) same
+      (split_is _ rs given.split.now rising zeros others wholes exact);
 }
 
 -- the numbers of the rows so far are those of rows
 pub all_below : (given : TableEntries) (count : ℕ) (rows : List (List Cell)) (numbers : List (List ℕ)) → AreLines given count rows numbers
     → All (All (λ n. n < length rows)) numbers
-all_below given count rows numbers h k d l = (all_within given count rows numbers h k d l).1
+all_below given count rows numbers h k d l = (all_within _ _ rows _ h k d l).1

@@ -13,8 +13,7 @@ IsFrom rules part low = (r : Rule) → Contains part r ↔ (Contains rules r × 
 
 part_here : (rules part : List Rule) (low : ℕ) (here : Option ℕ) → IsFrom rules part low → IsNewest part (λ k. k ≡ low) here
     → IsNewest rules (λ k. k ≡ low) here
-part_here rules part low here from n = newest_of_part rules part (λ k. k ≡ low) here (λ r c. ((from r).0 c).0)
-    (λ r c e. (from r).1 (c, omega (arith, e))) n
+part_here rules part low here from n = newest_of_part _ part _ here (λ r c. ((from r).0 c).0) (λ r c e. (from r).1 (c, omega (arith, e))) n
 
 later_three : (h o b x : Option ℕ) → max_option h (max_option (max_option o (max_option b None)) x)
     ≡ max_option (max_option h (max_option o b)) x
@@ -54,16 +53,15 @@ pub cells_of_part : (rules part : List Rule) (P : ℕ → ℕ → ℕ → Type 0
     → ((r : Rule) → Contains part r → Contains rules r)
     → ((e z : ℕ) (r : Rule) → e + 2 < key_base → z + 2 < key_base → Contains rules r → P e z r.key → Contains part r)
     → AreCellRules part P cells → AreCellRules rules P cells
-cells_of_part rules part P cells sub all are = λ e z el zl x n. newest_of_part rules part (P e z) _ sub (λ r c f. all e z r el zl c f)
-    (are e z el zl x n)
+cells_of_part rules part P cells sub all are = λ e z el zl x n. newest_of_part _ part _ _ sub (λ r. all e z r el zl) (are e z el zl x n)
 
 -- a span of keys
 pub cells_of_span : (rules part : List Rule) (low : ℕ) (cells : CellRules) → IsSpan rules part low (key_base ^ 2)
     → AreCellRules part (λ e z. FitsKey 2 low (e ∷ z ∷ [])) cells
     → AreCellRules rules (λ e z. FitsKey 2 low (e ∷ z ∷ [])) cells
 cells_of_span rules part low cells span are =
-    cells_of_part rules part (λ e z. FitsKey 2 low (e ∷ z ∷ [])) cells (λ r c. ((span r).0 c).0)
-    (λ e z r el zl c f. (span r).1 (c, fits_low 2 low (e ∷ z ∷ []) r.key f, fits_high 2 low (e ∷ z ∷ []) r.key (el, (zl, tt)) f)) are
+    cells_of_part _ part _ cells (λ r c. ((span r).0 c).0)
+    (λ e z r el zl c f. (span r).1 (c, fits_low 2 low _ _ f, fits_high 2 low _ _ (el, (zl, tt)) f)) are
 
 later_joined : (v w x : Option ℕ) → max_option (max_option v x) (max_option w None) ≡ max_option (max_option v w) x
 later_joined v w x = grind (arith, later_none, later_of_later)
@@ -72,21 +70,20 @@ later_joined_2 : (v w x : Option ℕ) → max_option (max_option v None) (max_op
 later_joined_2 v w x = grind (arith, later_none, later_of_later)
 
 none_named : (cells : CellRules) (e z : ℕ) → cells.named.now ≡ [] → IsNewest cells.named.now (NamesEnd cells.low e z) None
-none_named cells e z none r c f = let is : Contains [] r = subst (λ (rs : List Rule). Contains rs r) none c in grind (arith, is)
+none_named cells e z none r c f = grind (arith, subst (λ (rs : List Rule). Contains rs r) none c)
 
 pub joined_cells : (rules : List Rule) (P Q : ℕ → ℕ → ℕ → Type 0) (a b joined : CellRules) → AreCellRules rules P a → AreCellRules rules Q b
     → AreJoined a b joined
     → AreCellRules rules (λ e z k. P e z k ⊎ Q e z k) joined
 joined_cells rules P Q a b joined p q (whole, inl is) = λ e z el zl x n.
-    let here = subst (λ (l : ℕ). IsNewest a.named.now (NamesEnd l e z) x) is.2
-    (subst (λ named. IsNewest named.now (NamesEnd joined.low e z) x) is.1 n) in
-    subst (IsNewest rules (λ k. P e z k ⊎ Q e z k)) (later_joined a.whole b.whole x ∙ ap (λ (w : Option ℕ). max_option w x) (sym whole))
-    (newest_of_two rules (P e z) (Q e z) _ _ (p e z el zl x here) (q e z el zl None (none_named b e z is.0)))
+    subst (IsNewest rules (λ k. P e z k ⊎ Q e z k)) (later_joined a.whole b.whole x ∙ ap (λ w. max_option w x) (sym whole))
+    (newest_of_two _ _ _ _ _ (p e z el zl x (subst (λ (l : ℕ). IsNewest a.named.now (NamesEnd l e z) x) is.2
+    (subst (λ named. IsNewest named.now (NamesEnd joined.low e z) x) is.1 n))) (q e z el zl None (none_named b e z is.0)))
 joined_cells rules P Q a b joined p q (whole, inr is) = λ e z el zl x n.
-    let here = subst (λ (l : ℕ). IsNewest b.named.now (NamesEnd l e z) x) is.2
-    (subst (λ named. IsNewest named.now (NamesEnd joined.low e z) x) is.1 n) in
-    subst (IsNewest rules (λ k. P e z k ⊎ Q e z k)) (later_joined_2 a.whole b.whole x ∙ ap (λ (w : Option ℕ). max_option w x) (sym whole))
-    (newest_of_two rules (P e z) (Q e z) _ _ (p e z el zl None (none_named a e z is.0)) (q e z el zl x here))
+    subst (IsNewest rules (λ k. P e z k ⊎ Q e z k)) (later_joined_2 a.whole b.whole x ∙ ap (λ w. max_option w x) (sym whole))
+    (newest_of_two _ _ _ _ _ (p e z el zl None (none_named a e z is.0))
+    (q e z el zl x (subst (λ (l : ℕ). IsNewest b.named.now (NamesEnd l e z) x) is.2
+    (subst (λ named. IsNewest named.now (NamesEnd joined.low e z) x) is.1 n))))
 
 -- a rule that covers all cells
 pub whole_cells : (rules : List Rule) (P : ℕ → ℕ → ℕ → Type 0) (key : ℕ) (number : Option ℕ) (cells with_whole : CellRules)
@@ -94,23 +91,19 @@ pub whole_cells : (rules : List Rule) (P : ℕ → ℕ → ℕ → Type 0) (key 
     → with_whole.whole ≡ max_option number cells.whole → with_whole.low ≡ cells.low → with_whole.named ≡ cells.named
     → AreCellRules rules (λ e z k. (k ≡ key) ⊎ P e z k) with_whole
 whole_cells rules P key number cells with_whole p here whole low named = λ e z el zl x n.
-    let old = subst (λ (l : ℕ). IsNewest cells.named.now (NamesEnd l e z) x) low
-    (subst (λ ns. IsNewest ns.now (NamesEnd with_whole.low e z) x) named n) in
     subst (IsNewest rules (λ k. (k ≡ key) ⊎ P e z k)) (sym
-    (ap (λ (w : Option ℕ). max_option w x) whole ∙ later_of_later number cells.whole x))
-    (newest_of_two rules (λ k. k ≡ key) (P e z) number (max_option cells.whole x) here (p e z el zl x old))
+    (ap (λ w. max_option w x) whole ∙ later_of_later number cells.whole x))
+    (newest_of_two _ _ _ _ _ here (p e z el zl x (subst (λ (l : ℕ). IsNewest cells.named.now (NamesEnd l e z) x) low
+    (subst (λ ns. IsNewest ns.now (NamesEnd with_whole.low e z) x) named n))))
 
 -- one place more: no place, `*`, or the index
 pub placed_cells : (rules : List Rule) (m low i : ℕ) (rest : ℕ → ℕ → List ℕ) (cells : CellRules)
     → AreCellRules rules (λ e z k. (k ≡ low) ⊎ (FitsKey m (low + key_base ^ m) (rest e z) k
     ⊎ FitsKey m (low + (i + 2) * key_base ^ m) (rest e z) k)) cells
     → AreCellRules rules (λ e z. FitsKey (suc m) low (i ∷ rest e z)) cells
-placed_cells rules m low i rest cells are = λ e z el zl x n.
-    newest_as rules (λ k. (k ≡ low) ⊎ (FitsKey m (low + key_base ^ m) (rest e z) k ⊎ FitsKey m (low + (i + 2) * key_base ^ m) (rest e z) k))
-    (FitsKey (suc m) low (i ∷ rest e z)) _
-    (λ k f. ⊎_elim (fits_here (suc m) low k (i ∷ rest e z))
-    (λ g. ⊎_elim (fits_every m low i (rest e z) k) (fits_only m low i (rest e z) k) g) f)
-    (λ k f. fits_next m low i (rest e z) k f) (are e z el zl x n)
+placed_cells rules m low i rest cells are = λ e z el zl x n. newest_as _ _ _ _ (λ k f. ⊎_elim (fits_here _ low k _)
+    (λ g. ⊎_elim (fits_every m low i _ k) (fits_only m low i _ k) g) f)
+    (fits_next m low i (rest e z)) (are e z el zl x n)
 
 -- no key ends before this place or is for every index
 pub cells_of_only : (rules : List Rule) (m low i step : ℕ) (rest : ℕ → ℕ → List ℕ) (cells : CellRules) → step ≡ key_base ^ m
@@ -119,7 +112,7 @@ pub cells_of_only : (rules : List Rule) (m low i step : ℕ) (rest : ℕ → ℕ
     → AreCellRules rules (λ e z. FitsKey m (low + (i + 2) * step) (rest e z)) cells
     → AreCellRules rules (λ e z. FitsKey (suc m) low (i ∷ rest e z)) cells
 cells_of_only rules m low i step rest cells is small none are =
-    λ e z el zl x n. newest_only rules m low i step (rest e z) _ is (small e z el zl) none (are e z el zl x n)
+    λ e z el zl x n. newest_only _ m low i step _ _ is (small e z el zl) none (are e z el zl x n)
 
 -- ---- one cell
 -- no place, `*`, or the observation
@@ -127,14 +120,13 @@ abbrev pub IsLast : ℕ → ℕ → ℕ → Type 0
 IsLast base z key = (key ≡ base) ⊎ ((key ≡ base + 1) ⊎ (key ≡ base + (z + 2)))
 
 pub last_place : (base z key : ℕ) → FitsKey 1 base (z ∷ []) key → IsLast base z key
-last_place base z key f = ⊎_elim (λ is. inl is) (λ g. inr
-    (⊎_elim (λ h. inl (fits_end 0 (base + key_base ^ 0) key h))
-    (λ h. inr (let is = fits_end 0 (base + (z + 2) * key_base ^ 0) key h in omega (arith, is))) g)) (fits_next 0 base z [] key f)
+last_place base z key f = ⊎_elim inl (λ g. inr (⊎_elim (λ h. inl (fits_end 0 _ key h))
+    (λ h. inr (let is = fits_end 0 _ key h in omega (arith, is))) g)) (fits_next 0 base z [] key f)
 
 pub place_last : (base z key : ℕ) → IsLast base z key → FitsKey 1 base (z ∷ []) key
-place_last base z key (inl is) = fits_here 1 base key (z ∷ []) is
-place_last base z key (inr (inl is)) = fits_every 0 base z [] key (fits_here 0 (base + key_base ^ 0) key [] is)
-place_last base z key (inr (inr is)) = fits_only 0 base z [] key (fits_here 0 (base + (z + 2) * key_base ^ 0) key [] (omega (arith, is)))
+place_last base z key (inl is) = fits_here 1 base key _ is
+place_last base z key (inr (inl is)) = fits_every 0 base z [] key (fits_here 0 _ key [] is)
+place_last base z key (inr (inr is)) = fits_only 0 base z [] key (fits_here 0 _ key [] (omega (arith, is)))
 
 pub below_two : (n : ℕ) → n < 2 → (n ≡ 0) ⊎ (n ≡ 1)
 below_two n l = grind arith

@@ -28,50 +28,39 @@ FitsFront a s rest key = FitsKey most_places (table_key Reward) (a ∷ []) key �
 
 module _ (a s : ℕ) (rest : List ℕ) (key : ℕ) where
   front_of : FitsKey most_places (table_key Reward) (a ∷ s ∷ rest) key → FitsFront a s rest key
-  front_of f = ⊎_elim
-      (λ here. inl (fits_here 4 (table_key Reward) key (a ∷ []) here))
-      (⊎_elim
-      (λ every. ⊎_elim
-      (λ here. inl (fits_every 3 (table_key Reward) a [] key (fits_here 3 (table_key Reward + key_base ^ 3) key [] here)))
+  front_of f = ⊎_elim (λ here. inl (fits_here 4 _ key _ here)) (⊎_elim (λ every. ⊎_elim
+      (λ here. inl (fits_every 3 _ a [] key (fits_here 3 _ key [] here)))
       (⊎_elim (λ x. inr (inl (inl x))) (λ x. inr (inl (inr x))))
-      (fits_next 2 (table_key Reward + key_base ^ 3) s rest key every))
+      (fits_next 2 _ s rest key every))
       (λ only. ⊎_elim
-      (λ here. inl (fits_only 3 (table_key Reward) a [] key (fits_here 3 (table_key Reward + (a + 2) * key_base ^ 3) key [] here)))
+      (λ here. inl (fits_only 3 _ a [] key (fits_here 3 _ key [] here)))
       (⊎_elim (λ x. inr (inr (inl x))) (λ x. inr (inr (inr x))))
-      (fits_next 2 (table_key Reward + (a + 2) * key_base ^ 3) s rest key only)))
-      (fits_next 3 (table_key Reward) a (s ∷ rest) key f)
+      (fits_next 2 _ s rest key only)))
+      (fits_next 3 _ a _ key f)
 
   of_whole : FitsKey most_places (table_key Reward) (a ∷ []) key → FitsKey most_places (table_key Reward) (a ∷ s ∷ rest) key
-  of_whole f = ⊎_elim
-      (fits_here 4 (table_key Reward) key (a ∷ s ∷ rest))
-      (⊎_elim
-      (λ every. fits_every 3 (table_key Reward) a (s ∷ rest) key
-      (fits_here 3 (table_key Reward + key_base ^ 3) key (s ∷ rest) (fits_end 3 (table_key Reward + key_base ^ 3) key every)))
-      (λ only. fits_only 3 (table_key Reward) a (s ∷ rest) key
-      (fits_here 3 (table_key Reward + (a + 2) * key_base ^ 3) key (s ∷ rest)
-      (fits_end 3 (table_key Reward + (a + 2) * key_base ^ 3) key only))))
-      (fits_next 3 (table_key Reward) a [] key f)
+  of_whole f = ⊎_elim (fits_here 4 _ key _) (⊎_elim (λ every. fits_every 3 _ a _ key (fits_here 3 _ key _ (fits_end 3 _ key every)))
+      (λ only. fits_only 3 _ a _ key
+      (fits_here 3 _ key _
+      (fits_end 3 _ key only))))
+      (fits_next 3 _ a [] key f)
 
   of_front : FitsFront a s rest key → FitsKey most_places (table_key Reward) (a ∷ s ∷ rest) key
-  of_front f = ⊎_elim of_whole (⊎_elim
-      (λ every. fits_every 3 (table_key Reward) a (s ∷ rest) key
-      (⊎_elim (fits_every 2 (table_key Reward + key_base ^ 3) s rest key) (fits_only 2 (table_key Reward + key_base ^ 3) s rest key) every))
-      (λ only. fits_only 3 (table_key Reward) a (s ∷ rest) key
-      (⊎_elim (fits_every 2 (table_key Reward + (a + 2) * key_base ^ 3) s rest key)
-      (fits_only 2 (table_key Reward + (a + 2) * key_base ^ 3) s rest key) only))) f
+  of_front f = ⊎_elim of_whole (⊎_elim (λ every. fits_every 3 _ a _ key
+      (⊎_elim (fits_every 2 _ s rest key) (fits_only 2 _ s rest key) every))
+      (λ only. fits_only 3 _ a _ key
+      (⊎_elim (fits_every 2 _ s rest key)
+      (fits_only 2 _ s rest key) only))) f
 
 -- ---- keys that tell no end states apart
 -- a key that does not name an end state fits the cells of another as it fits the first's
 other_end : (low i j z key : ℕ) → (key < low + (i + 2) * key_base) ⊎ (low + (i + 2) * key_base + key_base ≤ key) → z + 2 < key_base
     → FitsKey 2 low (i ∷ z ∷ []) key → FitsKey 2 low (j ∷ z ∷ []) key
-other_end low i j z key gap zl fits = ⊎_elim
-    (fits_here 2 low key (j ∷ z ∷ []))
-    (⊎_elim
-    (fits_every 1 low j (z ∷ []) key)
-    (λ only. let from = fits_low 1 (low + (i + 2) * key_base ^ 1) (z ∷ []) key only in
-    let to = fits_high 1 (low + (i + 2) * key_base ^ 1) (z ∷ []) key (zl, tt) only in
+other_end low i j z key gap zl fits = ⊎_elim (fits_here 2 low key _) (⊎_elim (fits_every 1 low j _ key)
+    (λ only. let from = fits_low 1 _ _ key only in
+    let to = fits_high 1 _ _ key (zl, tt) only in
     absurd (⊎_elim (λ l. omega (arith, l, from)) (λ l. omega (arith, l, to)) gap)))
-    (fits_next 1 low i (z ∷ []) key fits)
+    (fits_next 1 low i _ key fits)
 
 pub end_key : (low e until key : ℕ) → (key < low + (e + 2) * key_base) ⊎ (low + (until + 2) * key_base ≤ key) → IsEndKey low e until key
 end_key low e until key gap f z from to zl = (
@@ -82,8 +71,8 @@ end_key low e until key gap f z from to zl = (
 pub end_alone : (low e until key : ℕ) → until ≤ e + 1 → IsEndKey low e until key
 end_alone low e until key few f z from to zl =
     let same : e ≡ f = omega (arith, from, to, few) in (
-      subst (λ (n : ℕ). FitsKey 2 low (n ∷ z ∷ []) key) same,
-      subst (λ (n : ℕ). FitsKey 2 low (n ∷ z ∷ []) key) (sym same),
+      subst (λ n. FitsKey 2 low (n ∷ z ∷ []) key) same,
+      subst (λ n. FitsKey 2 low (n ∷ z ∷ []) key) (sym same),
     )
 
 -- ---- answers
@@ -120,7 +109,7 @@ module _ (rules : List Rule) (first second : ℕ) (part : RulePart) (is : IsPart
 module _ (rules : List Rule) (a s : ℕ) (x : FittingRules) (is : AreFitting rules a s x) where
   part_newest : (low : ℕ) (part : RulePart) (rest : List ℕ) (n : Option ℕ) → IsPartOf rules low part → AreIndices 2 rest
       → IsNewest part.rules.now (FitsKey 2 part.low rest) n → IsNewest rules (FitsKey 2 low rest) n
-  part_newest low part rest n p small found = newest_of_span rules part.rules.now 2 low rest n small p.kept
+  part_newest low part rest n p small found = newest_of_span _ _ 2 low rest n small p.kept
       (subst (λ l. IsNewest part.rules.now (FitsKey 2 l rest) n) p.low_is found)
 
   pub newest_of_parts : (rest : List ℕ) (n p q t : Option ℕ) → AreIndices 2 rest
@@ -129,18 +118,18 @@ module _ (rules : List Rule) (a s : ℕ) (x : FittingRules) (is : AreFitting rul
       → IsNewest rules (FitsKey most_places (table_key Reward) (a ∷ s ∷ rest))
       (max_option x.whole (max_option (max_option n p) (max_option q t)))
   newest_of_parts rest n p q t small of_all of_state of_action of_row =
-      let every = newest_of_two rules (FitsTwo 1 1 rest) (FitsTwo 1 (s + 2) rest) n p
-      (part_newest (key_of_two 1 1) x.of_all rest n is.of_all small of_all)
-      (part_newest (key_of_two 1 (s + 2)) x.of_state rest p is.of_state small of_state) in
-      let only = newest_of_two rules (FitsTwo (a + 2) 1 rest) (FitsTwo (a + 2) (s + 2) rest) q t
-      (part_newest (key_of_two (a + 2) 1) x.of_action rest q is.of_action small of_action)
-      (part_newest (key_of_two (a + 2) (s + 2)) x.of_row rest t is.of_row small of_row) in
-      newest_as rules (FitsFront a s rest) (FitsKey most_places (table_key Reward) (a ∷ s ∷ rest)) _
-      (λ k f. of_front a s rest k f) (λ k f. front_of a s rest k f)
-      (newest_of_two rules (FitsKey most_places (table_key Reward) (a ∷ [])) (FitsParts a s rest) x.whole
-      (max_option (max_option n p) (max_option q t)) is.whole
-      (newest_of_two rules (λ k. FitsTwo 1 1 rest k ⊎ FitsTwo 1 (s + 2) rest k)
-      (λ k. FitsTwo (a + 2) 1 rest k ⊎ FitsTwo (a + 2) (s + 2) rest k) (max_option n p) (max_option q t) every only))
+      let every = newest_of_two _ _ _ n p
+      (part_newest _ _ rest n is.of_all small of_all)
+      (part_newest _ _ rest p is.of_state small of_state) in
+      let only = newest_of_two _ _ _ q t
+      (part_newest _ _ rest q is.of_action small of_action)
+      (part_newest _ _ rest t is.of_row small of_row) in
+      newest_as _ _ _ _
+      (of_front a s rest) (front_of a s rest)
+      (newest_of_two _ _ _ _
+      _ is.whole
+      (newest_of_two _ _
+      _ _ _ every only))
 
   pub noted_of_parts : (rest : List ℕ) (before u v w y after : Option ℕ) → AreIndices 2 rest → u ≡ max_option before x.whole
       → IsNoted x.of_all.rules.now (FitsKey 2 x.of_all.low rest) u v → IsNoted x.of_state.rules.now (FitsKey 2 x.of_state.low rest) v w
@@ -148,7 +137,7 @@ module _ (rules : List Rule) (a s : ℕ) (x : FittingRules) (is : AreFitting rul
       → IsNoted x.of_row.rules.now (FitsKey 2 x.of_row.low rest) y after
       → IsNoted rules (FitsKey most_places (table_key Reward) (a ∷ s ∷ rest)) before after
   noted_of_parts rest before u v w y after small e of_all of_state of_action of_row = record {
-    found = max_option x.whole (max_option (max_option of_all.found of_state.found) (max_option of_action.found of_row.found));
+    found = _;
     newest = newest_of_parts rest of_all.found of_state.found of_action.found of_row.found small of_all.newest of_state.newest
         of_action.newest of_row.newest;
     is = of_row.is ∙ ap (λ k. max_option k of_row.found) (of_action.is ∙ ap (λ k. max_option k of_action.found)
@@ -159,11 +148,11 @@ module _ (rules : List Rule) (a s : ℕ) (x : FittingRules) (is : AreFitting rul
       in_turn : (b m n p q t : Option ℕ) → max_option (max_option (max_option (max_option (max_option b m) n) p) q) t
           ≡ max_option b (max_option m (max_option (max_option n p) (max_option q t)))
       in_turn b m n p q t =
-          later_of_later (max_option (max_option (max_option b m) n) p) q t
-          ∙ later_of_later (max_option (max_option b m) n) p (max_option q t)
-          ∙ later_of_later (max_option b m) n (max_option p (max_option q t))
-          ∙ later_of_later b m (max_option n (max_option p (max_option q t)))
-          ∙ ap (λ k. max_option b (max_option m k)) (sym (later_of_later n p (max_option q t)))
+          later_of_later _ q t
+          ∙ later_of_later _ p _
+          ∙ later_of_later _ n _
+          ∙ later_of_later b m _
+          ∙ ap (λ k. max_option b (max_option m k)) (sym (later_of_later n p _))
 
   -- ---- the rules tell no end states apart
   end_part : (low e until n : ℕ) (part : RulePart) (r : Rule) (f z : ℕ) → IsPartOf rules low part
@@ -182,7 +171,7 @@ module _ (rules : List Rule) (a s : ℕ) (x : FittingRules) (is : AreFitting rul
       )
 
       at : Contains part.rules.now r → FitsKey 2 low (e ∷ z ∷ []) r.key ↔ FitsKey 2 low (f ∷ z ∷ []) r.key
-      at c = subst (λ (l : ℕ). FitsKey 2 l (e ∷ z ∷ []) r.key ↔ FitsKey 2 l (f ∷ z ∷ []) r.key) p.low_is
+      at c = subst (λ l. FitsKey 2 l (e ∷ z ∷ []) r.key ↔ FitsKey 2 l (f ∷ z ∷ []) r.key) p.low_is
           (ends r c f z from (omega (arith, to, few)) zl)
 
   abbrev AreEndParts : ℕ → ℕ → RulePart → Type 0
@@ -191,49 +180,45 @@ module _ (rules : List Rule) (a s : ℕ) (x : FittingRules) (is : AreFitting rul
   pub ends_of_parts : (e until n p q t : ℕ) → until ≤ n → until ≤ p → until ≤ q → until ≤ t → AreEndParts e n x.of_all
       → AreEndParts e p x.of_state → AreEndParts e q x.of_action → AreEndParts e t x.of_row → AreEndRules rules a s e until
   ends_of_parts e until n p q t ln lp lq lt of_all of_state of_action of_row r among f z el from to fl zl =
-      let all = end_part (key_of_two 1 1) e until n x.of_all r f z is.of_all of_all ln among el from to fl zl in
-      let state = end_part (key_of_two 1 (s + 2)) e until p x.of_state r f z is.of_state of_state lp among el from to fl zl in
-      let action = end_part (key_of_two (a + 2) 1) e until q x.of_action r f z is.of_action of_action lq among el from to fl zl in
-      let row = end_part (key_of_two (a + 2) (s + 2)) e until t x.of_row r f z is.of_row of_row lt among el from to fl zl in (
-        (λ g. of_front a s (f ∷ z ∷ []) r.key (⊎_elim (λ w. inl w) (⊎_elim
-            (⊎_elim (λ h. inr (inl (inl (all.0 h)))) (λ h. inr (inl (inr (state.0 h)))))
-            (⊎_elim (λ h. inr (inr (inl (action.0 h)))) (λ h. inr (inr (inr (row.0 h)))))) (front_of a s (e ∷ z ∷ []) r.key g))),
-        (λ g. of_front a s (e ∷ z ∷ []) r.key (⊎_elim (λ w. inl w) (⊎_elim
-            (⊎_elim (λ h. inr (inl (inl (all.1 h)))) (λ h. inr (inl (inr (state.1 h)))))
-            (⊎_elim (λ h. inr (inr (inl (action.1 h)))) (λ h. inr (inr (inr (row.1 h)))))) (front_of a s (f ∷ z ∷ []) r.key g))),
+      let all = end_part _ e _ n x.of_all r f z is.of_all of_all ln among el from to fl zl in
+      let state = end_part _ e _ p x.of_state r f z is.of_state of_state lp among el from to fl zl in
+      let action = end_part _ e _ q x.of_action r f z is.of_action of_action lq among el from to fl zl in
+      let row = end_part _ e _ t x.of_row r f z is.of_row of_row lt among el from to fl zl in (
+        (λ g. of_front a s _ _ (⊎_elim inl (⊎_elim (⊎_elim (λ h. inr (inl (inl (all.0 h)))) (λ h. inr (inl (inr (state.0 h)))))
+            (⊎_elim (λ h. inr (inr (inl (action.0 h)))) (λ h. inr (inr (inr (row.0 h)))))) (front_of a s _ _ g))),
+        (λ g. of_front a s _ _ (⊎_elim inl (⊎_elim (⊎_elim (λ h. inr (inl (inl (all.1 h)))) (λ h. inr (inl (inr (state.1 h)))))
+            (⊎_elim (λ h. inr (inr (inl (action.1 h)))) (λ h. inr (inr (inr (row.1 h)))))) (front_of a s _ _ g))),
       )
 
   -- ---- no rule has no place for the start state, or names it
   pub starts_unnamed : false ≡ is_some x.whole → (b c : Bool) → b ≡ (length x.of_state.rules.now == 0) → b ≡ true
       → c ≡ (length x.of_row.rules.now == 0) → c ≡ true → (r : Rule) → Contains rules r → NamesStart a s r.key → ⊥
-  starts_unnamed none b c of_state no_state of_row no_row r among = ⊎_elim
-      (λ here. unfit (fits_here 4 (table_key Reward) r.key (a ∷ []) here))
-      (⊎_elim
-      (⊎_elim (λ here. unfit (fits_every 3 (table_key Reward) a [] r.key (fits_here 3 (table_key Reward + key_base ^ 3) r.key [] here)))
-      (none_in rules 1 (s + 2) x.of_state is.of_state b of_state no_state r among))
-      (⊎_elim (λ here. unfit (fits_only 3 (table_key Reward) a [] r.key
-      (fits_here 3 (table_key Reward + (a + 2) * key_base ^ 3) r.key [] here)))
-      (none_in rules (a + 2) (s + 2) x.of_row is.of_row c of_row no_row r among)))
+  starts_unnamed none b c of_state no_state of_row no_row r among = ⊎_elim (λ here. unfit (fits_here 4 _ _ _ here)) (⊎_elim
+      (⊎_elim (λ here. unfit (fits_every 3 _ a [] r.key (fits_here 3 _ _ [] here)))
+      (none_in _ 1 _ _ is.of_state b of_state no_state r among))
+      (⊎_elim (λ here. unfit (fits_only 3 _ a [] r.key
+      (fits_here 3 _ _ [] here)))
+      (none_in _ _ _ _ is.of_row c of_row no_row r among)))
     where
       unfit : FitsKey most_places (table_key Reward) (a ∷ []) r.key → ⊥
-      unfit f = none_whole rules (FitsKey most_places (table_key Reward) (a ∷ [])) x.whole is.whole none r among f
+      unfit f = none_whole _ _ _ is.whole none r among f
 
   -- ---- whether there are any
   pub some_fits : true ≡ is_some x.whole → IsSearchAnswer rules (HasFront a s) true
   some_fits some =
-      let found = some_whole rules (FitsKey most_places (table_key Reward) (a ∷ [])) x.whole is.whole some in
+      let found = some_whole _ _ _ is.whole some in
       (found.0, found.1, inl found.2)
 
   pub last_fits : false ≡ is_some x.whole → (b c d e : Bool) → b ≡ (length x.of_all.rules.now == 0) → b ≡ true
       → c ≡ (length x.of_state.rules.now == 0) → c ≡ true → d ≡ (length x.of_action.rules.now == 0) → d ≡ true
       → e ≡ (length x.of_row.rules.now == 0) → IsSearchAnswer rules (HasFront a s) (not e)
   last_fits none b c d true of_all no_all of_state no_state of_action no_action of_row = λ r among. ⊎_elim
-      (none_whole rules (FitsKey most_places (table_key Reward) (a ∷ [])) x.whole is.whole none r among)
+      (none_whole _ _ _ is.whole none r among)
       (⊎_elim
-      (⊎_elim (none_in rules 1 1 x.of_all is.of_all b of_all no_all r among)
-      (none_in rules 1 (s + 2) x.of_state is.of_state c of_state no_state r among))
-      (⊎_elim (none_in rules (a + 2) 1 x.of_action is.of_action d of_action no_action r among)
-      (none_in rules (a + 2) (s + 2) x.of_row is.of_row true of_row refl r among)))
+      (⊎_elim (none_in _ 1 1 _ is.of_all b of_all no_all r among)
+      (none_in _ 1 _ _ is.of_state c of_state no_state r among))
+      (⊎_elim (none_in _ _ 1 _ is.of_action d of_action no_action r among)
+      (none_in _ _ _ _ is.of_row true of_row refl r among)))
   last_fits none b c d false of_all no_all of_state no_state of_action no_action of_row =
-      let found = some_in rules (a + 2) (s + 2) x.of_row is.of_row false of_row refl in
+      let found = some_in _ _ _ _ is.of_row false of_row refl in
       (found.0, found.1, inr (inr (inr found.2)))

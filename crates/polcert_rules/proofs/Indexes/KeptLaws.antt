@@ -34,9 +34,8 @@ get_last (y ∷ xs) x = get_last xs x
 
 equal_test : (x a b : ℕ) → x ≡ a → IsTrue (x == b) ↔ (a ≡ b)
 equal_test x a b e = (
-  λ t. let same : x ≡ b = search (rules, tests) in sym e ∙ same,
-  λ same. let same : x ≡ b = e ∙ same in
-      search (rules, tests),
+  λ t. sym e ∙ (search (rules, tests)),
+  λ same. search (rules, tests),
 )
 
 -- ---- rows that are made of the same
@@ -53,11 +52,11 @@ module _ (columns : ℕ) (entries : List Entry) where
 
   same_source : (one other : Option ℕ) (s t c : ℕ) → source_of entries one s ≡ source_of entries other t
       → given_at columns entries one s c ≡ given_at columns entries other t c
-  same_source one other s t c e = by_source one s c ∙ ap (λ (x : RowOrigin). made_of x c) e ∙ sym (by_source other t c)
+  same_source one other s t c e = by_source one s c ∙ ap (λ x. made_of x c) e ∙ sym (by_source _ t c)
 
   pub from_row : (whole : Option ℕ) (s : ℕ) (cells : List Cell) → IsRow columns (given_at columns entries whole s) cells
       → IsFrom columns entries (source_of entries whole s) cells
-  from_row whole s cells r other t e c l = r.each c l ∙ sym (same_source other whole t s c e)
+  from_row whole s cells r other t e c l = r.each c l ∙ sym (same_source _ _ t s c e)
 
   -- ---- a row that is kept already, and one more
   pub known_row : (whole : Option ℕ) (s n : ℕ) (k : RowStore) → AreKept columns entries k
@@ -71,35 +70,33 @@ module _ (columns : ℕ) (entries : List Entry) where
   pub cells_row : (cells : List Cell) (k : RowStore) (f : ℕ → ℕ) (n : ℕ) → AreKept columns entries k → IsKeptRow columns f k.rows n
       → slice_get k.rows n ≡ Some cells → IsRow columns f cells
   cells_row cells k f n all h is =
-      let same : h.row ≡ cells = same_Some h.row cells (sym h.is ∙ is) in
-      subst (λ (xs : List Cell). IsRow columns f xs) same
-      (record { sparse = at_number (IsSparse columns) k.rows n h.row all.sparse h.is; each = h.each })
+      subst (λ xs. IsRow columns f xs) (same_Some h.row cells (sym h.is ∙ is))
+      (record { sparse = at_number (IsSparse columns) _ n _ all.sparse h.is; each = h.each })
 
   -- a row with these cells, where they are a row of these weights
   pub weighed_row : (cells : List Cell) (rows : List (List Cell)) (f : ℕ → ℕ) (n : ℕ) → slice_get rows n ≡ Some cells
       → IsRow columns f cells → IsKeptRow columns f rows n
-  weighed_row cells rows f n is r = record { row = cells; is = is; each = r.each }
+  weighed_row cells rows f n is r = record { row = _; is = is; each = r.each }
 
   pub after_stays : (cells : List Cell) (old new : RowStore) → IsAfter columns cells old new → Stays old.rows new.rows
   after_stays cells old new b n row e = subst (λ (xs : List (List Cell)). slice_get xs n ≡ Some row) (sym b.rows_are)
-      (get_front old.rows (cells ∷ []) n row e)
+      (get_front _ (cells ∷ []) n row e)
 
   common_stays : (old new : List (List Cell)) → Stays old new → (x : SharedRow) → IsSharedRow columns entries old x
       → IsSharedRow columns entries new x
-  common_stays old new stays x h = record { row = h.row; is = stays x.number h.row h.is; made = h.made }
+  common_stays old new stays x h = record { row = h.row; is = stays _ _ h.is; made = h.made }
 
   pub after_kept : (cells : List Cell) (old new : RowStore) → IsAfter columns cells old new → IsSparse columns cells
       → AreKept columns entries old → AreKept columns entries new
   after_kept cells old new b sparse all = record {
     sparse = subst (λ (xs : List (List Cell)). All (IsSparse columns) xs) (sym b.rows_are)
-        (All-push (IsSparse columns) old.rows cells all.sparse sparse);
+        (All-push (IsSparse columns) _ cells all.sparse sparse);
     tested =
-        b.tests_are ∙ ap (λ (bs : List Bool). bs ++ is_proper columns cells ∷ []) all.tested
-        ∙ sym (map-append (is_proper columns) old.rows (cells ∷ []))
+        b.tests_are ∙ ap (λ bs. bs ++ is_proper columns cells ∷ []) all.tested
+        ∙ sym (map-append _ _ _)
         ∙ sym (ap (map (is_proper columns)) b.rows_are);
-    common = subst (λ (xs : List SharedRow). All (IsSharedRow columns entries new.rows) xs) (sym b.common_are)
-        (All-weaker (IsSharedRow columns entries old.rows) (IsSharedRow columns entries new.rows)
-        (common_stays old.rows new.rows (after_stays cells old new b)) old.shared.items all.common);
+    common = subst (λ xs. All (IsSharedRow columns entries new.rows) xs) (sym b.common_are) (All-weaker _ _
+        (common_stays _ new.rows (after_stays cells old new b)) _ all.common);
   }
 
   pub after_row : (cells : List Cell) (old new : RowStore) (n : ℕ) → IsAfter columns cells old new → n ≡ length old.rows
@@ -114,31 +111,31 @@ module _ (columns : ℕ) (entries : List Entry) where
     sparse = subst (λ (xs : List (List Cell)). All (IsSparse columns) xs) (sym rows) all.sparse;
     tested = tests ∙ all.tested ∙ sym (ap (map (is_proper columns)) rows);
     common = subst (λ (xs : List (List Cell)). All (IsSharedRow columns entries xs) new.shared.items) (sym rows)
-        (subst (λ (xs : List SharedRow). All (IsSharedRow columns entries old.rows) xs) (sym more)
-        (All-push (IsSharedRow columns entries old.rows) old.shared.items x all.common here));
+        (subst (λ xs. All (IsSharedRow columns entries old.rows) xs) (sym more)
+        (All-push (IsSharedRow columns entries old.rows) _ x all.common here));
   }
 
   -- what is known of the sum of a row
   pub proper_is : (k : RowStore) (f : ℕ → ℕ) (n : ℕ) (b : Bool) → AreKept columns entries k → IsKeptRow columns f k.rows n
       → slice_get k.proper.items n ≡ Some b → IsTrue b ↔ (sum_below f columns ≡ one * columns)
   proper_is k f n b all h is =
-      let at : slice_get (map (is_proper columns) k.rows) n ≡ Some (is_proper columns h.row) = slice_get-map (is_proper columns) k.rows n
-      ∙ ap (option_map (is_proper columns)) h.is in
-      let same : is_proper columns h.row ≡ b = same_Some (is_proper columns h.row) b
-      (sym at ∙ ap (λ (bs : List Bool). slice_get bs n) (sym all.tested) ∙ is) in
-      let sum = sum_is columns h.row (at_number (IsSparse columns) k.rows n h.row all.sparse h.is) ∙ sum_same _ _ columns h.each in
-      subst (λ t. IsTrue t ↔ (sum_below f columns ≡ one * columns)) same (equal_test _ _ _ sum)
+      let same = same_Some _ b
+      (sym (slice_get-map (is_proper columns) k.rows n ∙ ap (option_map (is_proper columns)) h.is)
+      ∙ ap (λ bs. slice_get bs n) (sym all.tested) ∙ is) in
+      subst (λ t. IsTrue t ↔ (sum_below f columns ≡ one * columns)) same
+      (equal_test _ _ _ (sum_is columns h.row (at_number (IsSparse columns) k.rows n h.row all.sparse h.is)
+      ∙ sum_same _ _ columns h.each))
 
 -- ---- rows that stay
 pub row_within : (columns : ℕ) (f : ℕ → ℕ) (rows : List (List Cell)) (n : ℕ) → IsKeptRow columns f rows n → n < length rows
-row_within columns f rows n k = slice_get_within rows n k.row k.is
+row_within columns f rows n k = slice_get_within rows n _ k.is
 
 pub number_stays : (old new : List (List Cell)) (n : ℕ) → Stays old new → n < length old → n < length new
 number_stays old new n stays l = slice_get_within new n _ (stays n _ (slice_get-get_or old n [] l))
 
 pub numbers_stay : (numbers : List ℕ) (old new : List (List Cell)) → Stays old new → All (λ n. n < length old) numbers
     → All (λ n. n < length new) numbers
-numbers_stay numbers old new stays all k d l = number_stays old new (get_or numbers k d) stays (all k d l)
+numbers_stay numbers old new stays all k d l = number_stays old new _ stays (all k d l)
 
 -- ---- how large weights are
 number_small : (ps : List ℕ) (k : ℕ) → All (λ p. p ≤ one) ps → slice_index ps k ≤ one
@@ -151,7 +148,7 @@ given_by_small columns cells places body s c h1 h2 = grind (arith, mul-le-mul_le
 
 pub given_small : (shape : Shape) (e : Entry) (s c : ℕ) → IsShapeWithin shape → FitsShape shape e
     → entry_weight shape.columns e s c ≤ one * shape.columns
-given_small shape e s c w f = given_by_small shape.columns _ e.places e.body s c w.columns.0 f.body
+given_small shape e s c w f = given_by_small _ _ _ _ s c w.columns.0 f.body
 
 pub whole_small : (shape : Shape) (entries : List Entry) (whole : Option ℕ) (s c : ℕ) → IsShapeWithin shape
     → IsWholeRowEntry shape entries whole
@@ -163,15 +160,15 @@ pub scale_at : (shape : Shape) (rows : List (List Cell)) (numbers : List (List �
     → HaveScale shape rows numbers → a < shape.actions → s < shape.states → slice_get numbers a ≡ Some line
     → slice_get rows (slice_index line s) ≡ Some cells → sum_of_weights cells ≡ one * shape.columns
 scale_at shape rows numbers line cells a s h la ls line_is cells_are =
-    let on_line = get_or_from_slice_get numbers a line [] line_is in
-    let row = get_or_from_slice_get rows (slice_index line s) cells [] cells_are in
+    let row = get_or_from_slice_get rows _ _ [] cells_are in
     ap sum_of_weights (sym row)
-    ∙ ap (λ (ns : List ℕ). sum_of_weights (slice_index_or rows (slice_index ns s) [])) (sym on_line) ∙ h a s la ls
+    ∙ ap (λ ns. sum_of_weights (slice_index_or rows (slice_index ns s) [])) (sym (get_or_from_slice_get numbers a line [] line_is))
+    ∙ h a s la ls
 
 -- ---- rows of numbers
 pub full_row : (n : ℕ) (f : ℕ → ℕ) (ns : List ℕ) → IsFullLine n f ns → IsRow n f (scaled_cells (length ns) 0 ns)
 full_row n f ns line =
-    let row : IsRow n (λ c. slice_index ns c * length ns) (scaled_cells (length ns) 0 ns) =
-    subst (λ (m : ℕ). IsRow m (λ c. slice_index ns c * length ns) (scaled_cells (length ns) 0 ns)) line.size (scaled_row (length ns) ns)
+    let row =
+    subst (λ m. IsRow m (λ c. slice_index ns c * length ns) (scaled_cells (length ns) 0 ns)) line.size (scaled_row (length ns) ns)
     in
-    row_same n _ f (scaled_cells (length ns) 0 ns) (λ c l. ap (λ m. slice_index ns c * m) line.size ∙ line.each c l) row
+    row_same n _ f _ (λ c l. ap (λ m. slice_index ns c * m) line.size ∙ line.each c l) row

@@ -17,9 +17,7 @@ module _ {X : Type 0} (xs ys : List X) where
   lists_stay : (ps : List Part) → All (PartLiesIn (length xs)) ps → map (part_in (xs ++ ys)) ps ≡ map (part_in xs) ps
   lists_stay [] a = refl
   lists_stay (p ∷ ps) a =
-      let here = part_stays p (All-head (PartLiesIn (length xs)) p ps a) in
-      let rest = lists_stay ps (All-tail (PartLiesIn (length xs)) p ps a) in
-      λ i. here i ∷ rest i
+      λ i. (part_stays p (All-head (PartLiesIn (length xs)) p ps a)) i ∷ (lists_stay ps (All-tail (PartLiesIn (length xs)) p ps a)) i
 
   part_last : (p : Part) → p.start ≡ length xs → p.end ≡ length xs + length ys → part_in (xs ++ ys) p ≡ ys
   part_last p s e = grind (arith, take_all, drop-append_seam)
@@ -32,12 +30,11 @@ module _ {X : Type 0} (xs ys : List X) where
 -- ---- rows in two lists
 range_stays : {X : Type 0} (xs ys : List X) (start count : ℕ) → start + count ≤ length xs
     → slice_range (xs ++ ys) start (start + count) ≡ slice_range xs start (start + count)
-range_stays xs ys start count room = part_stays xs ys (record { start = start; end = start + count })
-    (record { order = omega arith; room = room })
+range_stays xs ys start count room = part_stays xs ys _ (record { order = omega arith; room = room })
 
 range_last : {X : Type 0} (xs ys : List X) (start count : ℕ) → start ≡ length xs → count ≡ length ys
     → slice_range (xs ++ ys) start (start + count) ≡ ys
-range_last xs ys start count s e = part_last xs ys (record { start = start; end = start + count }) s (omega (arith, s, e))
+range_last xs ys start count s e = part_last xs ys _ s (omega (arith, s, e))
 
 -- the lists continue
 module _ (cells more : List Cell) (numbers others : List ℕ) where
@@ -49,9 +46,8 @@ module _ (cells more : List Cell) (numbers others : List ℕ) where
       → map (row_in (cells ++ more) (numbers ++ others)) ps ≡ map (row_in cells numbers) ps
   rows_stay [] a = refl
   rows_stay (p ∷ ps) a =
-      let here = form_stays p.form p.start p.count (All-head (IsHeld cells numbers) p ps a).room in
-      let rest = rows_stay ps (All-tail (IsHeld cells numbers) p ps a) in
-      λ i. here i ∷ rest i
+      λ i. (form_stays p.form p.start p.count (All-head (IsHeld cells numbers) p ps a).room) i ∷
+      (rows_stay ps (All-tail (IsHeld cells numbers) p ps a)) i
 
   -- one more row
   one_more_row : (ps : List RowLocation) (p : RowLocation) → All (IsHeld cells numbers) ps
@@ -64,36 +60,30 @@ push_row : (cells more : List Cell) (numbers : List ℕ) (ps : List RowLocation)
     → All (IsHeld cells numbers) ps → row_in (cells ++ more) numbers p ≡ row
     → map (row_in (cells ++ more) numbers) (ps ++ p ∷ []) ≡ map (row_in cells numbers) ps ++ row ∷ []
 push_row cells more numbers ps p row a last =
-    let all : map (row_in (cells ++ more) numbers) (ps ++ p ∷ []) ≡ map (row_in cells numbers) ps ++ row_in (cells ++ more) numbers p ∷ [] =
-    subst (λ (ns : List ℕ). map (row_in (cells ++ more) ns) (ps ++ p ∷ [])
-    ≡ map (row_in cells numbers) ps ++ row_in (cells ++ more) ns p ∷ []) (append-nil numbers) (one_more_row cells more numbers [] ps p a)
-    in
-    all ∙ (λ i. map (row_in cells numbers) ps ++ last i ∷ [])
+    (subst (λ (ns : List ℕ). map (row_in (cells ++ more) ns) (ps ++ p ∷ [])
+    ≡ map (row_in cells numbers) ps ++ row_in (cells ++ more) ns p ∷ []) (append-nil numbers) (one_more_row cells more numbers [] ps p a))
+    ∙ (λ i. map (row_in cells numbers) ps ++ last i ∷ [])
 
 pub push_sparse : (cells more : List Cell) (numbers : List ℕ) (ps : List RowLocation) (p : RowLocation) → All (IsHeld cells numbers) ps
     → p.form ≡ Sparse → p.start ≡ length cells → p.count ≡ length more
     → map (row_in (cells ++ more) numbers) (ps ++ p ∷ []) ≡ map (row_in cells numbers) ps ++ more ∷ []
-push_sparse cells more numbers ps p a f s e = push_row cells more numbers ps p more a
-    (ap (λ g. cells_by_form (cells ++ more) numbers g p.start p.count) f ∙ range_last cells more p.start p.count s e)
+push_sparse cells more numbers ps p a f s e = push_row _ more _ ps p more a
+    (ap (λ g. cells_by_form (cells ++ more) numbers g p.start p.count) f ∙ range_last _ more _ _ s e)
 
 pub push_even : (cells more : List Cell) (numbers : List ℕ) (ps : List RowLocation) (p : RowLocation) → All (IsHeld cells numbers) ps
     → p.form ≡ Even → p.start ≡ length cells → p.count ≡ length more
     → map (row_in (cells ++ more) numbers) (ps ++ p ∷ []) ≡ map (row_in cells numbers) ps ++ even_cells more ∷ []
-push_even cells more numbers ps p a f s e = push_row cells more numbers ps p (even_cells more) a
-    (ap (λ g. cells_by_form (cells ++ more) numbers g p.start p.count) f ∙ ap even_cells (range_last cells more p.start p.count s e))
+push_even cells more numbers ps p a f s e = push_row _ more _ ps p _ a
+    (ap (λ g. cells_by_form (cells ++ more) numbers g p.start p.count) f ∙ ap even_cells (range_last _ more _ _ s e))
 
 pub push_full : (cells : List Cell) (numbers more : List ℕ) (ps : List RowLocation) (p : RowLocation) → All (IsHeld cells numbers) ps
     → p.form ≡ Full → p.start ≡ length numbers → p.count ≡ length more
     → map (row_in cells (numbers ++ more)) (ps ++ p ∷ []) ≡ map (row_in cells numbers) ps ++ scaled_cells (length more) 0 more ∷ []
 push_full cells numbers more ps p a f s e =
-    let all : map (row_in cells (numbers ++ more)) (ps ++ p ∷ []) ≡ map (row_in cells numbers) ps ++ row_in cells (numbers ++ more) p ∷ [] =
-    subst (λ (cs : List Cell). map (row_in cs (numbers ++ more)) (ps ++ p ∷ [])
-    ≡ map (row_in cells numbers) ps ++ row_in cs (numbers ++ more) p ∷ []) (append-nil cells) (one_more_row cells [] numbers more ps p a)
-    in
-    let last : row_in cells (numbers ++ more) p ≡ scaled_cells (length more) 0 more =
-    ap (λ g. cells_by_form cells (numbers ++ more) g p.start p.count) f
-    ∙ ap (scaled_cells p.count 0) (range_last numbers more p.start p.count s e) ∙ ap (λ n. scaled_cells n 0 more) e in
-    all ∙ (λ i. map (row_in cells numbers) ps ++ last i ∷ [])
+    (subst (λ (cs : List Cell). map (row_in cs (numbers ++ more)) (ps ++ p ∷ [])
+    ≡ map (row_in cells numbers) ps ++ row_in cs (numbers ++ more) p ∷ []) (append-nil cells) (one_more_row cells [] numbers more ps p a))
+    ∙ (λ i. map (row_in cells numbers) ps ++ (ap (λ g. cells_by_form cells (numbers ++ more) g p.start p.count) f
+    ∙ ap (scaled_cells p.count 0) (range_last numbers more p.start p.count s e) ∙ ap (λ n. scaled_cells n 0 more) e) i ∷ [])
 
 -- ---- rows stay within longer lists
 module _ (cells more : List Cell) (numbers others : List ℕ) where
@@ -101,7 +91,7 @@ module _ (cells more : List Cell) (numbers others : List ℕ) where
       → FitForm f (slice_range cells start (start + count)) → FitForm f (slice_range (cells ++ more) start (start + count))
   fit_stays Sparse start count room fit = tt
   fit_stays Full start count room fit = tt
-  fit_stays Even start count room fit = subst AreEvenCells (sym (range_stays cells more start count room)) fit
+  fit_stays Even start count room fit = subst AreEvenCells (sym (range_stays _ more _ _ room)) fit
 
   room_stays : (f : RowForm) (end : ℕ) → RowLiesIn f (length cells) (length numbers) end
       → RowLiesIn f (length (cells ++ more)) (length (numbers ++ others)) end
@@ -113,8 +103,7 @@ module _ (cells more : List Cell) (numbers others : List ℕ) where
 
 pub held_cells : (cells more : List Cell) (numbers : List ℕ) (ps : List RowLocation) → All (IsHeld cells numbers) ps
     → All (IsHeld (cells ++ more) numbers) ps
-held_cells cells more numbers ps a =
-    subst (λ (ns : List ℕ). All (IsHeld (cells ++ more) ns) ps) (append-nil numbers) (held_stays cells more numbers [] ps a)
+held_cells cells more numbers ps a = subst (λ ns. All (IsHeld (cells ++ more) ns) ps) (append-nil _) (held_stays _ more _ [] ps a)
 
 -- so does one row more
 module _ (cells more : List Cell) (numbers : List ℕ) (ps : List RowLocation) (all : All (IsHeld cells numbers) ps) (start count : ℕ)
@@ -126,16 +115,11 @@ module _ (cells more : List Cell) (numbers : List ℕ) (ps : List RowLocation) (
       (held_cells cells more numbers ps all) (record { room = room; fit = fit })
 
   room : start + count ≤ length (cells ++ more)
-  room = let both = length-append cells more in omega (arith, both, s, e)
+  room = omega (arith, length-append cells more, s, e)
 
   pub held_sparse : All (IsHeld (cells ++ more) numbers) (ps ++ record { start = start; count = count; form = Sparse } ∷ [])
-  held_sparse = held_more Sparse room tt
+  held_sparse = held_more _ room tt
 
   pub held_even : AreEvenCells more
       → All (IsHeld (cells ++ more) numbers) (ps ++ record { start = start; count = count; form = Even } ∷ [])
   held_even fit = held_more Even room (subst AreEvenCells (sym (range_last cells more start count s e)) fit)
-
-pub held_numbers : (cells : List Cell) (numbers more : List ℕ) (ps : List RowLocation) → All (IsHeld cells numbers) ps
-    → All (IsHeld cells (numbers ++ more)) ps
-held_numbers cells numbers more ps a =
-    subst (λ (cs : List Cell). All (IsHeld cs (numbers ++ more)) ps) (append-nil cells) (held_stays cells [] numbers more ps a)

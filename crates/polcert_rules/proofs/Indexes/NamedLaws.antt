@@ -24,13 +24,13 @@ pub unnamed_in : (rules : List NamedRule) (n z : ℕ) → ((k : ℕ) → k < n �
     → named_number rules n z ≡ None
 unnamed_in rules zero z d = refl
 unnamed_in rules (suc n) z d = miss (rule_at rules n).observation z _ _ (d n (omega arith))
-    ∙ unnamed_in rules n z (λ k l. d k (omega (arith, l)))
+    ∙ unnamed_in _ n z (λ k l. d k (omega (arith, l)))
 
 pub found_in : (rules : List NamedRule) (n k z : ℕ) → k < n → (rule_at rules k).observation ≡ z → AreDistinct rules n
     → named_number rules n z ≡ Some (rule_at rules k).number
 found_in rules zero k z l e d = absurd (omega (arith, l))
 found_in rules (suc n) k z l e d = at (same_or_not k n)
-    (λ m. found_in rules n k z m e (record { each = λ i j il jl. d.each i j il (omega (arith, jl)) }))
+    (λ m. found_in _ n k z m e (record { each = λ i j il jl. d.each i j il (omega (arith, jl)) }))
   where
     at : (k ≡ n) ⊎ (k ≡ n → ⊥) → (k < n → named_number rules n z ≡ Some (rule_at rules k).number)
         → cond ((rule_at rules n).observation == z) (Some (rule_at rules n).number) (named_number rules n z) ≡ Some (rule_at rules k).number
@@ -46,7 +46,7 @@ same_in xs ys (suc n) z h = grind (arith, miss, same_in xs ys n z)
 -- ---- one rule is written
 module _ (rules : List NamedRule) (p : ℕ) (x : NamedRule) (room : p < length rules) where
   at_place : rule_at (set rules p x) p ≡ x
-  at_place = get_or-set_at rules p p x _ refl room
+  at_place = get_or-set_at _ p p x _ refl room
 
   at_other : (k : ℕ) → (k ≡ p → ⊥) → rule_at (set rules p x) k ≡ rule_at rules k
   at_other k d = get_or-set_other rules p k x _ d
@@ -73,7 +73,7 @@ module _ (rules : List NamedRule) (p : ℕ) (x : NamedRule) (room : p < length r
   one_more = omega arith
 
   still_before : (z : ℕ) → named_number (set rules p x) p z ≡ named_number rules p z
-  still_before z = same_in (set rules p x) rules p z (λ k l. inl (at_other k (λ f. absurd (omega (arith, f, l)))))
+  still_before z = same_in _ _ p z (λ k l. inl (at_other k (λ f. absurd (omega (arith, f, l)))))
 
   pub pushed_here : (w : Option ℕ) → ((k : ℕ) → k < p → (rule_at rules k).observation ≡ x.observation → ⊥)
       → max_option w (named_number (set rules p x) (p + 1) x.observation)

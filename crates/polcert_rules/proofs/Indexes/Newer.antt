@@ -34,7 +34,7 @@ pub newest_of_span : (rules part : List Rule) (m low : ℕ) (indices : List ℕ)
     → IsSpan rules part low (key_base ^ m)
     → IsNewest part (FitsKey m low indices) x → IsNewest rules (FitsKey m low indices) x
 newest_of_span rules part m low indices x a span n =
-    newest_of_part rules part (FitsKey m low indices) x (λ r c. ((span r).0 c).0)
+    newest_of_part _ part _ x (λ r c. ((span r).0 c).0)
     (λ r c f. (span r).1 (c, fits_low m low indices r.key f, fits_high m low indices r.key a f)) n
 
 -- one place more: no place, `*`, or the index
@@ -47,12 +47,12 @@ pub newest_of_three : (rules : List Rule) (m low i : ℕ) (indices : List ℕ) (
     → IsNewest rules (FitsKey m (low + key_base ^ m) indices) every → IsNewest rules (FitsKey m (low + (i + 2) * key_base ^ m) indices) only
     → IsNewest rules (FitsKey (suc m) low (i ∷ indices)) (max_option here (max_option every only))
 newest_of_three rules m low i indices here every only h e o =
-    let two = newest_of_two rules _ _ every only e o in
-    let three = newest_of_two rules _ _ here (max_option every only) h two in
-    newest_as rules (λ k. (k ≡ low) ⊎ (FitsKey m (low + key_base ^ m) indices k ⊎ FitsKey m (low + (i + 2) * key_base ^ m) indices k))
-    (FitsKey (suc m) low (i ∷ indices)) _
-    (λ k f. ⊎_elim (fits_here (suc m) low k (i ∷ indices)) (λ g. ⊎_elim (fits_every m low i indices k) (fits_only m low i indices k) g) f)
-    (λ k f. fits_next m low i indices k f) three
+    let two = newest_of_two _ _ _ _ only e o in
+    let three = newest_of_two _ _ _ here _ h two in
+    newest_as _ _
+    _ _
+    (λ k f. ⊎_elim (fits_here _ low k _) (⊎_elim (fits_every m low i indices k) (fits_only m low i indices k)) f)
+    (fits_next m low i indices) three
 
 -- from the parts that have the rules with these places
 pub newest_next : (rules evens onlys : List Rule) (m low i : ℕ) (indices : List ℕ) (here every only : Option ℕ) → AreIndices m indices
@@ -67,13 +67,12 @@ newest_next rs0 evens onlys m low i indices here every only a h spanned e spanne
 pub newest_here : (rules part : List Rule) (low size : ℕ) (here : Option ℕ) → 1 ≤ size → IsSpan rules part low size
     → IsNewest part (λ k. k ≡ low) here → IsNewest rules (λ k. k ≡ low) here
 newest_here rules part low size here some span n =
-    newest_of_part rules part (λ k. k ≡ low) here (λ r c. ((span r).0 c).0)
+    newest_of_part _ part _ here (λ r c. ((span r).0 c).0)
     (λ r c e. (span r).1 (c, omega (arith, e), omega (arith, e, some))) n
 
 pub newest_end : (rules : List Rule) (m low : ℕ) (here : Option ℕ) → IsNewest rules (λ k. k ≡ low) here
     → IsNewest rules (FitsKey m low []) here
-newest_end rules m low here n = newest_as rules (λ k. k ≡ low) (FitsKey m low []) here (λ k e. fits_here m low k [] e)
-    (λ k f. fits_end m low k f) n
+newest_end rules m low here n = newest_as _ _ _ here (λ k. fits_here m low k []) (fits_end m low) n
 
 -- a level is left where an index is
 pub some_level : (m i : ℕ) (indices : List ℕ) → AreIndices m (i ∷ indices) → (suc (m - 1) ≡ m) × (i + 2 < key_base)
@@ -93,9 +92,9 @@ pub first_is_not : (rules : List Rule) (x : Rule) (key : ℕ) → IsRising rules
     → slice_get rules 0 ≡ Some x
     → (x.key ≡ key → ⊥) → IsNewest rules (λ k. k ≡ key) None
 first_is_not rules x key up from is other r c e =
-    let inside = slice_get_within rules 0 x is in
+    let inside = slice_get_within _ 0 x is in
     let low : key ≤ x.key = from x (0, inside, get_or_from_slice_get rules 0 x x is) in
-    ⊎_elim (λ same. other (ap (λ (y : Rule). y.key) (sym same) ∙ e)) (λ less. absurd (omega arith)) (after_first rules x up is r c)
+    ⊎_elim (λ same. other (ap (λ (y : Rule). y.key) (sym same) ∙ e)) (λ less. absurd (omega arith)) (after_first _ x up is r c)
 
 -- what is known where there is one more index
 pub record IsDeeper (m low i : ℕ) (indices : List ℕ) (step : ℕ) : Type 0 where
@@ -120,7 +119,7 @@ pub newest_deeper : (rules evens onlys : List Rule) (m low i : ℕ) (indices : L
     → IsNewest rules (FitsKey m low (i ∷ indices)) (max_option here (max_option every only))
 newest_deeper rules evens onlys m low i indices step here every only d h spanned e spanned_only o =
     subst (λ k. IsNewest rules (FitsKey k low (i ∷ indices)) (max_option here (max_option every only))) d.level
-    (newest_next rules evens onlys (m - 1) low i indices here every only d.indices_are h
+    (newest_next _ evens onlys _ low i _ here every only d.indices_are h
     (subst (λ s. IsSpan rules evens (low + s) s) d.step_is spanned)
     (subst (λ s. IsNewest evens (FitsKey (m - 1) (low + s) indices) every) d.step_is e)
     (subst (λ s. IsSpan rules onlys (low + (i + 2) * s) s) d.step_is spanned_only)
@@ -131,9 +130,9 @@ pub newest_only : (rules : List Rule) (m low i step : ℕ) (indices : List ℕ) 
     → ((r : Rule) → Contains rules r → low ≤ r.key → r.key < low + step + step → ⊥)
     → IsNewest rules (FitsKey m (low + (i + 2) * step) indices) x → IsNewest rules (FitsKey (suc m) low (i ∷ indices)) x
 newest_only rules m low i step indices x is small none only =
-    newest_of_three rules m low i indices None None x (λ r c e. none r c (omega (arith, e)) (omega (arith, e, is, power_some m)))
-    (newest_of_none rules m (low + key_base ^ m) indices small (λ r c l h. none r c (omega (arith, l)) (omega (arith, h, is))))
-    (subst (λ (t : ℕ). IsNewest rules (FitsKey m (low + (i + 2) * t) indices) x) is only)
+    newest_of_three _ m low i _ None None x (λ r c e. none r c (omega (arith, e)) (omega (arith, e, is, power_some m)))
+    (newest_of_none _ m _ _ small (λ r c l h. none r c (omega (arith, l)) (omega (arith, h, is))))
+    (subst (λ t. IsNewest rules (FitsKey m (low + (i + 2) * t) indices) x) is only)
 
 pub no_more : (indices : List ℕ) → length indices ≡ 0 → indices ≡ []
 no_more [] e = refl

@@ -27,24 +27,24 @@ pub only_one : (r y : Rule) → Contains (r ∷ []) y → r ≡ y
 only_one r y h1 = grind arith
 
 newest_skip : (xs : List Rule) (r : Rule) (P : ℕ → Type 0) (x : Option ℕ) → IsNewest xs P x → (P r.key → ⊥) → IsNewest (xs ++ r ∷ []) P x
-newest_skip xs r P x n d = newest_of_part (xs ++ r ∷ []) xs P x (λ y c. Contains-append_left xs (r ∷ []) y c)
-    (λ y c p. ⊎_elim (λ old. old) (λ new. absurd (d (subst (λ (z : Rule). P z.key) (sym (only_one r y new)) p)))
-    (Contains-append_cases xs (r ∷ []) y c)) n
+newest_skip xs r P x n d = newest_of_part _ xs P x (Contains-append_left xs (r ∷ []))
+    (λ y c p. ⊎_elim (λ old. old) (λ new. absurd (d (subst (λ z. P z.key) (sym (only_one r y new)) p)))
+    (Contains-append_cases xs _ y c)) n
 
 newest_hit : (xs : List Rule) (r : Rule) (P : ℕ → Type 0) (x : Option ℕ) → IsNewest xs P x → P r.key
     → IsNewest (xs ++ r ∷ []) P (max_option x (Some r.number))
 newest_hit xs r P x n h =
-    newest_of (xs ++ r ∷ []) P (max_option x (Some r.number))
-    (greatest_as (λ y. (Contains xs y × P y.key) ⊎ (r ≡ y)) _ (max_option x (Some r.number))
-    (λ y e. ⊎_elim (λ old. (Contains-append_left xs (r ∷ []) y old.0, old.1))
-    (λ same. subst (λ (z : Rule). Contains (xs ++ r ∷ []) z × P z.key) same (Contains-append_right xs (r ∷ []) r (0, omega arith, refl), h))
+    newest_of _ P _
+    (greatest_as _ _ _
+    (λ y e. ⊎_elim (λ old. (Contains-append_left xs _ y old.0, old.1))
+    (λ same. subst (λ (z : Rule). Contains (xs ++ r ∷ []) z × P z.key) same (Contains-append_right xs _ r (0, omega arith, refl), h))
     e)
-    (λ y f. ⊎_elim (λ old. inl (old, f.1)) (λ new. inr (only_one r y new)) (Contains-append_cases xs (r ∷ []) y f.0))
-    (greatest_of_two _ _ x (Some r.number) (greatest_of xs P x n) (greatest_itself r)))
+    (λ y f. ⊎_elim (λ old. inl (old, f.1)) (λ new. inr (only_one r y new)) (Contains-append_cases xs _ y f.0))
+    (greatest_of_two _ _ x _ (greatest_of xs P x n) (greatest_itself r)))
 
 pub noted_skip : (xs : List Rule) (r : Rule) (P : ℕ → Type 0) (before old new : Option ℕ) → IsNoted xs P before old → (P r.key → ⊥)
     → new ≡ old → IsNoted (xs ++ r ∷ []) P before new
-noted_skip xs r P before old new n d e = record { found = n.found; newest = newest_skip xs r P n.found n.newest d; is = e ∙ n.is }
+noted_skip xs r P before old new n d e = record { found = _; newest = newest_skip xs r P _ n.newest d; is = e ∙ n.is }
 
 pub noted_hit : (xs : List Rule) (r : Rule) (P : ℕ → Type 0) (before old new : Option ℕ) → IsNoted xs P before old → P r.key
     → new ≡ max_option old (Some r.number) → IsNoted (xs ++ r ∷ []) P before new
@@ -60,7 +60,7 @@ pub one_more_index : (m : ℕ) (indices : List ℕ) (z : ℕ) → AreIndices m i
 one_more_index zero [] z a e l = absurd (omega arith)
 one_more_index zero (i ∷ indices) z a e l = absurd a
 one_more_index (suc m) [] z a e l = (l, tt)
-one_more_index (suc m) (i ∷ indices) z a e l = (a.0, one_more_index m indices z a.1 (omega arith) l)
+one_more_index (suc m) (i ∷ indices) z a e l = (a.0, one_more_index m _ z a.1 (omega arith) l)
 
 -- the last place: `*`, or the number itself, as the rules from their keys on have it
 pub noted_last : (rules following named : List Rule) (low first count i start : ℕ) (here before between after : Option ℕ) → i < count
@@ -70,29 +70,26 @@ pub noted_last : (rules following named : List Rule) (low first count i start : 
     → IsSpan rules named start count → IsNoted named (λ k. k ≡ start + i) between after
     → IsNoted rules (IsLastPlace low (first + i)) before after
 noted_last rules following named low first count i start here before between after l is from h e span n = record {
-  found = max_option here n.found;
-  newest = newest_as rules (λ k. (k ≡ low + 1) ⊎ (k ≡ start + i)) (IsLastPlace low (first + i)) (max_option here n.found)
-      (λ k f. ⊎_elim (λ every. inl every) (λ only. inr (omega arith)) f)
-      (λ k f. ⊎_elim (λ every. inl every) (λ only. inr (omega arith)) f)
-      (newest_of_two rules (λ k. k ≡ low + 1) (λ k. k ≡ start + i) here n.found
-      (newest_of_part rules following (λ k. k ≡ low + 1) here (λ r c. ((from r).0 c).0) (λ r c f. (from r).1 (c, omega arith)) h)
-      (newest_of_part rules named (λ k. k ≡ start + i) n.found (λ r c. ((span r).0 c).0) (λ r c f. (span r).1 (c, omega arith, omega arith))
+  found = _;
+  newest = newest_as _ _ _ _ (λ k f. ⊎_elim inl (λ only. inr (omega arith)) f) (λ k f. ⊎_elim inl (λ only. inr (omega arith)) f)
+      (newest_of_two _ _ _ here _
+      (newest_of_part _ _ _ here (λ r c. ((from r).0 c).0) (λ r c f. (from r).1 (c, omega arith)) h)
+      (newest_of_part _ _ _ _ (λ r c. ((span r).0 c).0) (λ r c f. (span r).1 (c, omega arith, omega arith))
       n.newest));
-  is = n.is ∙ ap (λ x. max_option x n.found) e ∙ later_of_later before here n.found;
+  is = n.is ∙ ap (λ x. max_option x n.found) e ∙ later_of_later _ here _;
 }
 
 pub noted_end : (rules : List Rule) (low z : ℕ) (here before between after : Option ℕ) → IsNewest rules (λ k. k ≡ low) here
     → between ≡ max_option before here
     → IsNoted rules (IsLastPlace low z) between after → IsNoted rules (FitsKey 1 low (z ∷ [])) before after
 noted_end rules low z here before between after h e n = record {
-  found = max_option here n.found;
-  newest = newest_as rules (λ k. (k ≡ low) ⊎ IsLastPlace low z k) (FitsKey 1 low (z ∷ [])) (max_option here n.found)
-      (λ k f. ⊎_elim (fits_here 1 low k (z ∷ [])) (λ g. ⊎_elim (λ i. fits_every 0 low z [] k (fits_here 0 (low + key_base ^ 0) k [] i))
-      (λ i. fits_only 0 low z [] k (fits_here 0 (low + (z + 2) * key_base ^ 0) k [] (omega arith))) g) f)
-      (λ k f. ⊎_elim (λ i. inl i) (λ g. inr (⊎_elim (λ i. inl (fits_end 0 (low + key_base ^ 0) k i))
-      (λ i. inr (let j = fits_end 0 (low + (z + 2) * key_base ^ 0) k i in omega arith)) g)) (fits_next 0 low z [] k f))
-      (newest_of_two rules (λ k. k ≡ low) (IsLastPlace low z) here n.found h n.newest);
-  is = n.is ∙ ap (λ x. max_option x n.found) e ∙ later_of_later before here n.found;
+  found = _;
+  newest = newest_as _ _ _ _ (λ k f. ⊎_elim (fits_here 1 low k _) (λ g. ⊎_elim (λ i. fits_every 0 low z [] k (fits_here 0 _ k [] i))
+      (λ i. fits_only 0 low z [] k (fits_here 0 _ k [] (omega arith))) g) f)
+      (λ k f. ⊎_elim inl (λ g. inr (⊎_elim (λ i. inl (fits_end 0 _ k i))
+      (λ i. inr (let j = fits_end 0 _ k i in omega arith)) g)) (fits_next 0 low z [] k f))
+      (newest_of_two _ _ _ here _ h n.newest);
+  is = n.is ∙ ap (λ x. max_option x n.found) e ∙ later_of_later _ here _;
 }
 
 pub noted_deeper : (rules evens onlys : List Rule) (m low i : ℕ) (rest : List ℕ) (z step : ℕ) (here before first second after : Option ℕ)
@@ -102,13 +99,12 @@ pub noted_deeper : (rules evens onlys : List Rule) (m low i : ℕ) (rest : List 
     → IsSpan rules onlys (low + (i + 2) * step) step → IsNoted onlys (FitsKey (m - 1) (low + (i + 2) * step) (rest ++ z ∷ [])) second after
     → IsNoted rules (FitsKey m low (i ∷ (rest ++ z ∷ []))) before after
 noted_deeper rules evens onlys m low i rest z step here before first second after a size l is h e spanned n spanned_only o =
-    let d = is_deeper m low i (rest ++ z ∷ []) step (one_more_index m (i ∷ rest) z a size l) is in
+    let d = is_deeper m low i _ step (one_more_index m (i ∷ rest) z a size l) is in
     record {
-      found = max_option here (max_option n.found o.found);
-      newest = newest_deeper rules evens onlys m low i (rest ++ z ∷ []) step here n.found o.found d h spanned n.newest spanned_only
-          o.newest;
+      found = _;
+      newest = newest_deeper _ _ _ m low i _ step here _ _ d h spanned n.newest spanned_only o.newest;
       is = o.is ∙ ap (λ x. max_option x o.found) (n.is ∙ ap (λ x. max_option x n.found) e)
-          ∙ later_of_later (max_option before here) n.found o.found ∙ later_of_later before here (max_option n.found o.found);
+          ∙ later_of_later (max_option before here) n.found o.found ∙ later_of_later _ here _;
     }
 
 -- where nothing was noted before, the newest is noted

@@ -1,5 +1,5 @@
 -- An entry covers a cell exactly where its key fits the indices: the newest that fits is the last that covers.
-use Rattle.std.proofs.Common.{◌≡◌, ◌∙◌, ℕ, suc, ◌+◌, ◌*◌, ◌^◌, ◌<◌, ◌≤◌, Bool, true, false, ◌&&◌, ◌||◌, Option, Some, None, List, [], ◌∷◌}
+use Rattle.std.proofs.Common.{◌≡◌, ◌∙◌, ℕ, suc, ◌+◌, ◌^◌, ◌<◌, ◌≤◌, Bool, true, false, ◌&&◌, ◌||◌, Option, Some, None, List, [], ◌∷◌}
 use Rattle.std.proofs.Common.{◌++◌, take, drop, length, All, Contains, refl, sym, ap, subst, arith}
 use Rattle.polcert_rules.proofs.Common.{list_any, drop_more, slice_get_within, get_or_from_slice_get, Table, Place, Entry, is_table}
 use Rattle.polcert_rules.proofs.Common.{fit_places, covers, IsLastCovering, last, Rule, key_base, key_in, key_of, table_key, AreDigits}
@@ -33,18 +33,16 @@ pub same_keys : (t u : Table) (ps qs : List Place) → AreDigits most_places ps 
 same_keys t u ps qs a b e =
     let zero_t : 0 + table_key t ≡ table_key t = omega arith in
     let zero_u : 0 + table_key u ≡ table_key u = omega arith in
-    let moved : key_in most_places (0 + table_digit t * key_base ^ most_places) ps
-    ≡ key_in most_places (0 + table_digit u * key_base ^ most_places) qs =
-    ap (λ l. key_in most_places l ps) zero_t ∙ e ∙ ap (λ l. key_in most_places l qs) (sym zero_u) in
-    let tables : t ≡ u = table_of_digit t u (same_digit most_places 0 (table_digit t) (table_digit u) ps qs a b moved) in
-    (tables, same_places most_places (table_key t) ps qs a b (e ∙ ap (λ v. key_in most_places (table_key v) qs) (sym tables)))
+    let tables = table_of_digit t u (same_digit _ 0 _ _ ps qs a b
+    (ap (λ l. key_in most_places l ps) zero_t ∙ e ∙ ap (λ l. key_in most_places l qs) (sym zero_u))) in
+    (tables, same_places _ _ ps qs a b (e ∙ ap (λ v. key_in most_places (table_key v) qs) (sym tables)))
 
 pub fits_covered : (table : Table) (indices : List ℕ) (e : Entry) → AreDigits most_places e.places → AreIndices most_places indices
     → FitsKey most_places (table_key table) indices (key_of e) → covers table indices e ≡ true
 fits_covered table indices e digits a f =
-    let same = same_keys e.table table e.places f.places digits (fit_digits most_places f.places indices a f.fits) f.is in
-    let first : is_table e.table table ≡ true = ap (λ t. is_table t table) same.0 ∙ equal_table table in
-    ap (λ b. b && fit_places e.places indices) first ∙ ap (λ ps. fit_places ps indices) same.1 ∙ f.fits
+    let same = same_keys _ _ _ _ digits (fit_digits _ _ _ a f.fits) f.is in
+    ap (λ b. b && fit_places e.places indices) (ap (λ t. is_table t table) same.0 ∙ equal_table table)
+    ∙ ap (λ ps. fit_places ps indices) same.1 ∙ f.fits
 
 -- ---- the last that covers
 false_from : (b : Bool) → (b ≡ true → ⊥) → b ≡ false
@@ -52,20 +50,16 @@ false_from b h1 = grind arith
 
 none_of : (p : Entry → Bool) (es : List Entry) → ((k : ℕ) (e : Entry) → slice_get es k ≡ Some e → p e ≡ true → ⊥) → list_any p es ≡ false
 none_of p [] h = refl
-none_of p (e ∷ es) h =
-    let here : p e ≡ false = false_from (p e) (h 0 e refl) in
-    let rest : list_any p es ≡ false = none_of p es (λ k x is. h (suc k) x is) in
-    ap (λ b. b || list_any p es) here ∙ rest
+none_of p (e ∷ es) h = ap (λ b. b || list_any p es) (false_from (p e) (h 0 e refl)) ∙ (none_of p es (λ k x is. h (suc k) x is))
 
 last_at : (entries : List Entry) (table : Table) (indices : List ℕ) (n : ℕ) (e : Entry) → slice_get entries n ≡ Some e
     → covers table indices e ≡ true
     → ((k : ℕ) (x : Entry) → slice_get entries k ≡ Some x → covers table indices x ≡ true → k ≤ n)
     → IsLastCovering entries table indices (Some e)
 last_at entries table indices n e is covered greatest =
-    let inside = slice_get_within entries n e is in
-    let split : drop n entries ≡ e ∷ drop (n + 1) entries =
-    drop_more entries n e inside ∙ ap (λ (x : Entry). x ∷ drop (n + 1) entries) (get_or_from_slice_get entries n e e is) in
-    last (take n entries) e (drop (n + 1) entries) (sym (take-append-drop n entries) ∙ ap (λ (xs : List Entry). take n entries ++ xs) split)
+    let split =
+    drop_more _ n e (slice_get_within entries n e is) ∙ ap (λ x. x ∷ drop (n + 1) entries) (get_or_from_slice_get _ n e e is) in
+    last (take n entries) e (drop (n + 1) entries) (sym (take-append-drop n entries) ∙ ap (λ xs. take n entries ++ xs) split)
     covered
     (none_of (covers table indices) (drop (n + 1) entries)
     (λ k x found c. let at = greatest (n + 1 + k) x (sym (slice_get-drop (n + 1) k entries) ∙ found) c in absurd (omega arith)))
@@ -77,15 +71,15 @@ last_is entries table indices None l = none (none_of (covers table indices) entr
 last_is entries table indices (Some n) l = grind (arith, last_at)
 
 pub keyed_at : (P : Entry → Type 0) (entries : List Entry) (k : ℕ) (e : Entry) → All P entries → slice_get entries k ≡ Some e → P e
-keyed_at P entries k e keyed is = subst P (get_or_from_slice_get entries k e e is) (keyed k e (slice_get_within entries k e is))
+keyed_at P entries k e keyed is = subst P (get_or_from_slice_get _ k e e is) (keyed k e (slice_get_within entries k e is))
 
 pub number_within : (table : Table) (entries : List Entry) (rules : List Rule) → IsIndexOf table entries rules → (r : Rule)
     → Contains rules r → r.number < length entries
-number_within table entries rules index r among = let e = index.sound r among in slice_get_within entries r.number e.0 e.1
+number_within table entries rules index r among = let e = index.sound r among in slice_get_within _ _ e.0 e.1
 
 -- what covers a cell is an entry of the table
 pub covers_own : (table : Table) (indices : List ℕ) (e : Entry) → covers table indices e ≡ true → e.table ≡ table
-covers_own table indices e c = same_table e.table table (and_true (is_table e.table table) (fit_places e.places indices) c).0
+covers_own table indices e c = same_table _ _ (and_true _ _ c).0
 
 pub last_number : (entries : List Entry) (rules : List Rule) (table : Table) (indices : List ℕ) (result : Option ℕ)
     → IsIndexOf table entries rules
@@ -112,5 +106,5 @@ pub newest_in : (rules part : List Rule) (table : Table) (indices : List ℕ) (l
     → AreIndices most_places indices → IsSpan rules part low size → IsNewest part (FitsKey most_places low indices) result
     → IsNewest rules (FitsKey most_places (table_key table) indices) result
 newest_in rules part table indices low size result at full a span n =
-    let whole = newest_of_span rules part most_places low indices result a (subst (IsSpan rules part low) full span) n in
-    subst (λ l. IsNewest rules (FitsKey most_places l indices) result) at whole
+    subst (λ l. IsNewest rules (FitsKey most_places l indices) result) at
+    (newest_of_span rules part most_places low indices result a (subst (IsSpan rules part low) full span) n)

@@ -15,10 +15,10 @@ pub equal_numbers : (a : ℕ) → (a == a) ≡ true
 equal_numbers a = grind (arith, nat_tests)
 
 pub power_next : (m : ℕ) → key_base ^ suc m ≡ key_base * key_base ^ m
-power_next m = pow-succ' key_base m
+power_next m = pow-succ' _ m
 
 pub power_some : (m : ℕ) → 1 ≤ key_base ^ m
-power_some zero = let e : 1 ≤ 1 = omega arith in e
+power_some zero = (omega arith)
 power_some (suc m) = let e = power_next m in let before = power_some m in omega arith
 
 -- a digit and one more fit below the next power
@@ -44,12 +44,12 @@ pub fit_digits : (m : ℕ) (ps : List Place) (indices : List ℕ) → AreIndices
 fit_digits m [] indices a e = tt
 fit_digits m (p ∷ ps) [] a e = cc
 fit_digits zero (p ∷ ps) (i ∷ indices) a e = absurd a
-fit_digits (suc m) (Every ∷ ps) (i ∷ indices) a e = (omega arith, fit_digits m ps indices a.1 e)
+fit_digits (suc m) (Every ∷ ps) (i ∷ indices) a e = (omega arith, fit_digits m ps _ a.1 e)
 fit_digits (suc m) (Only n ∷ ps) (i ∷ indices) a e =
-    let both = and_true (n == i) (fit_places ps indices) e in
+    let both = and_true _ _ e in
     let same = same_number n i both.0 in
     let small = a.0 in
-    (omega arith, fit_digits m ps indices a.1 both.1)
+    (omega arith, fit_digits m ps _ a.1 both.1)
 
 pub fits_low : (m low : ℕ) (indices : List ℕ) (key : ℕ) → FitsKey m low indices key → low ≤ key
 fits_low m low indices key f = let l = key_low m low f.places in let e = f.is in omega arith
@@ -83,8 +83,7 @@ fits_next m low i indices key f = at f.places f.fits f.is
 pub fits_every : (m low i : ℕ) (indices : List ℕ) (key : ℕ) → FitsKey m (low + key_base ^ m) indices key
     → FitsKey (suc m) low (i ∷ indices) key
 fits_every m low i indices key f =
-    let one : low + key_base ^ m ≡ low + 1 * key_base ^ m = omega arith in
-    record { places = Every ∷ f.places; fits = f.fits; is = f.is ∙ ap (λ l. key_in m l f.places) one }
+    record { places = Every ∷ f.places; fits = f.fits; is = f.is ∙ ap (λ l. key_in m l f.places) (omega arith) }
 
 pub fits_only : (m low i : ℕ) (indices : List ℕ) (key : ℕ) → FitsKey m (low + (i + 2) * key_base ^ m) indices key
     → FitsKey (suc m) low (i ∷ indices) key

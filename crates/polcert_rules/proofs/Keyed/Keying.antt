@@ -34,9 +34,6 @@ same_places zero low (p ∷ ps) qs a b e = absurd a
 same_places (suc m) low [] (q ∷ qs) a b e = absurd (beyond m low q qs e)
 same_places (suc m) low (p ∷ ps) [] a b e = absurd (beyond m low p ps (sym e))
 same_places (suc m) low (p ∷ ps) (q ∷ qs) a b e =
-    let digits : digit p ≡ digit q = same_digit m low (digit p) (digit q) ps qs a.1 b.1 e in
-    let first : p ≡ q = same_place p q digits in
-    let covering_entry : key_in m (low + digit p * key_base ^ m) ps ≡ key_in m (low + digit p * key_base ^ m) qs = e
-    ∙ ap (λ d. key_in m (low + d * key_base ^ m) qs) (sym digits) in
-    let rest : ps ≡ qs = same_places m (low + digit p * key_base ^ m) ps qs a.1 b.1 covering_entry in
-    ap (λ (x : Place). x ∷ ps) first ∙ ap (λ (xs : List Place). q ∷ xs) rest
+    let digits = same_digit m low _ _ ps qs a.1 b.1 e in
+    let rest = same_places m _ ps qs a.1 b.1 (e ∙ ap (λ d. key_in m (low + d * key_base ^ m) qs) (sym digits)) in
+    ap (λ x. x ∷ ps) (same_place p q digits) ∙ ap (λ xs. q ∷ xs) rest

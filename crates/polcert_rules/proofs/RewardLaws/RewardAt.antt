@@ -1,8 +1,8 @@
 -- The reward of a cell by the rules is what the last entry that covers it gives.
-use Rattle.std.proofs.Common.{◌≡◌, ℕ, ◌<◌, ◌≤◌, Option, Some, None, List, [], ◌∷◌, map, slice_get, arith}
+use Rattle.std.proofs.Common.{◌≡◌, ℕ, ◌<◌, ◌≤◌, Option, Some, None, List, [], ◌∷◌, map, arith}
 use Rattle.polcert_rules.proofs.Common.{Entry, Reward, count_of, most_states, most_actions, most_observations, Preamble, rewarded}
 use Rattle.polcert_rules.proofs.Common.{dimensions, reward, RewardBody, AreIndices, table_key, most_places, IsNewest, AreRewardsOf}
-use Rattle.polcert_rules.proofs.Common.{RewardRules, AreWithin, IsLastBody, newest_in}
+use Rattle.polcert_rules.proofs.Common.{RewardRules, AreWithin, IsLastBody}
 use Rattle.polcert_rules.specs.Keys.{FitsKey}
 use Rattle.polcert_rules.specs.RewardAt.{given, given_by, reward_by_rules, reward_at}
 use Rattle.polcert_rules.proofs.Indexes.Matching.{newest_is}
@@ -14,17 +14,16 @@ module _ (p : Preamble) (entries : List Entry) (rewards : RewardRules) (indices 
     (within : AreWithin (map count_of (dimensions p Reward)) indices) where
   of_body : (found : Option RewardBody) → IsLastBody p.costs entries rewards.numbers indices found
       → given rewards indices found ≡ reward p entries indices
-  of_body None last = no_reward p entries indices last
-  of_body (Some b) last = body_reward p entries rewards indices b are (all_open p indices within) last
+  of_body None last = no_reward p _ _ last
+  of_body (Some b) last = body_reward p _ _ _ b are (all_open p _ within) last
 
   of_number : (number : Option ℕ) → IsNewest rewards.rules (FitsKey most_places (table_key Reward) indices) number
       → given_by rewards indices number ≡ reward p entries indices
-  of_number None n = no_reward p entries indices (last_of_rules p entries rewards indices None are small n)
-  of_number (Some number) n = of_body (slice_get rewards.bodies number) (last_body p entries rewards indices number are small n)
+  of_number None n = no_reward p _ _ (last_of_rules p _ _ _ None are small n)
+  of_number (Some number) n = of_body _ (last_body p entries rewards indices number are small n)
 
   pub cell_is : reward_by_rules rewards indices ≡ reward p entries indices
-  cell_is = of_number (newest_in most_places (table_key Reward) rewards.rules indices)
-      (newest_is most_places (table_key Reward) rewards.rules indices)
+  cell_is = of_number _ (newest_is most_places (table_key Reward) rewards.rules indices)
 
 -- in a model whose counts are within their limits
 pub reward_is : (p : Preamble) (entries : List Entry) (rewards : RewardRules) (a s e z : ℕ) → AreRewardsOf p entries rewards

@@ -12,7 +12,7 @@ pub last_of_rules : (p : Preamble) (entries : List Entry) (rewards : RewardRules
     → AreRewardsOf p entries rewards
     → AreIndices most_places indices → IsNewest rewards.rules (FitsKey most_places (table_key Reward) indices) result
     → IsLastNumber entries Reward indices result
-last_of_rules p entries rewards indices result a is n = last_number entries rewards.rules Reward indices result a.index is n
+last_of_rules p entries rewards indices result a is n = last_number _ _ _ _ _ a.index is n
 
 -- its entry has a body, and that is found
 pub last_body : (p : Preamble) (entries : List Entry) (rewards : RewardRules) (indices : List ℕ) (number : ℕ)
@@ -33,8 +33,7 @@ last_body p entries rewards indices number a is n = at (slice_get rewards.bodies
     at (Some b) e = record {
       number = number;
       last = last_of_rules p entries rewards indices (Some number) a is n;
-      body = λ x is_x.
-          subst (λ (y : Entry). IsBodyOf p.costs y rewards.numbers b)
+      body = λ x is_x. subst (λ y. IsBodyOf p.costs y rewards.numbers b)
           (same_Some entry.0 x (sym (ap (slice_get entries) (sym n.0.is) ∙ entry.1) ∙ is_x))
           (subst (λ y. IsSomeAnd y (IsBodyOf p.costs entry.0 rewards.numbers)) e found);
     }

@@ -1,7 +1,7 @@
 -- The rule of an entry of R that covers a cell.
 use Rattle.std.proofs.Common.{◌≡◌, ◌∙◌, ℕ, true, Some, List, Contains, ap}
 use Rattle.std.specs.List.{slice_get}
-use Rattle.polcert_rules.proofs.Common.{Reward, Entry, Preamble, IsSoundEntry, fit_places, is_table, covers, Rule, key_in, table_key}
+use Rattle.polcert_rules.proofs.Common.{Reward, Entry, Preamble, IsSoundEntry, fit_places, covers, Rule, key_in, table_key}
 use Rattle.polcert_rules.proofs.Common.{AreDigits, most_places, AreRewardsOf, RewardRules}
 use Rattle.polcert_rules.proofs.Keyed.Fitting.{and_true}
 use Rattle.polcert_rules.proofs.Keyed.Covering.{keyed_at, same_table}
@@ -20,15 +20,14 @@ pub covering : (p : Preamble) (entries : List Entry) (rewards : RewardRules) (in
     → AreRewardsOf p entries rewards → slice_get entries k ≡ Some x
     → covers Reward indices x ≡ true → IsCovering p rewards indices x
 covering p entries rewards indices k x a is c =
-    let both = and_true (is_table x.table Reward) (fit_places x.places indices) c in
-    let t = same_table x.table Reward both.0 in
-    let digits : AreDigits most_places x.places = keyed_at (λ (e : Entry). AreDigits most_places e.places) entries k x a.keyed is in
+    let both = and_true _ _ c in
+    let t = same_table _ _ both.0 in
     let r = a.index.complete k x is t in
     record {
       table = t;
       fits = both.1;
-      digits = digits;
-      sound = keyed_at (IsSoundEntry p) entries k x a.sound is;
+      digits = keyed_at (λ (e : Entry). AreDigits most_places e.places) entries k x a.keyed is;
+      sound = keyed_at (IsSoundEntry p) _ k x a.sound is;
       rule = r.0;
       among = r.1;
       key = r.2 ∙ ap (λ u. key_in most_places (table_key u) x.places) t;

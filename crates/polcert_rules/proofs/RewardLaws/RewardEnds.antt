@@ -27,7 +27,7 @@ module _ (p : Preamble) (entries : List Entry) (rewards : RewardRules) (are : Ar
   long : (e z k : ℕ) (x : Entry) → NoneIsWide rewards a s → slice_get entries k ≡ Some x → covers Reward (a ∷ s ∷ e ∷ z ∷ []) x ≡ true
       → 3 ≤ length x.places
   long e z k x none is c =
-      let d = covering p entries rewards (a ∷ s ∷ e ∷ z ∷ []) k x are is c in
+      let d = covering p _ _ _ k x are is c in
       ⊎_elim (λ few. absurd (none d.rule d.among (record { places = x.places; fits = wide a s e z x.places d.fits few; is = d.key })))
       (λ l. l) (cases_lt (length x.places) 3)
 
@@ -49,10 +49,10 @@ module _ (p : Preamble) (entries : List Entry) (rewards : RewardRules) (are : Ar
       let cell = λ (n : ℕ). a ∷ s ∷ n ∷ z ∷ [] in
       let number = newest_in most_places (table_key Reward) rewards.rules (cell e) in
       let here = newest_is most_places (table_key Reward) rewards.rules (cell e) in
-      let there = newest_among rewards.rules (FitsKey most_places (table_key Reward) (cell e))
-      (FitsKey most_places (table_key Reward) (cell f)) number
+      let there = newest_among rewards.rules _
+      _ number
       (λ r among g. (ends r among f z small.1.1.0 from to small_f.1.1.0 small.1.1.1.0).0 g)
       (λ r among g. (ends r among f z small.1.1.0 from to small_f.1.1.0 small.1.1.1.0).1 g) here in
-      number_reward p entries (cell f) number (last_of_rules p entries rewards (cell f) number are small_f there)
+      number_reward p entries (cell f) number (last_of_rules p _ _ (cell f) number are small_f there)
       ∙ sym (given_ends e f z number none (last_of_rules p entries rewards (cell e) number are small here))
-      ∙ sym (number_reward p entries (cell e) number (last_of_rules p entries rewards (cell e) number are small here))
+      ∙ sym (number_reward p entries (cell e) number (last_of_rules p _ _ (cell e) number are small here))

@@ -26,4 +26,4 @@ bodies_are costs entries bodies of_each n e is = at (slice_get bodies n) (of_eac
     at : (b : Option RewardBody) → IsSomeAnd b (λ x. (x.places ≡ length e.places) × AreRewardsFrom entries n x.start)
         → IsSomeAnd b (IsBodyOf costs e (map (worth costs) (all_rewards entries)))
     at None a = a
-    at (Some b) a = body_is costs entries e n b is a.1 a.0
+    at (Some b) a = body_is _ _ e n b is a.1 a.0

@@ -42,9 +42,8 @@ front_of a s e z key (p ∷ q ∷ rest) fits digits is =
 
 pub unpaid : (p : Preamble) (entries : List Entry) (rewards : RewardRules) (a s e z : ℕ) → AreRewardsOf p entries rewards
     → IsSearchAnswer rewards.rules (HasFront a s) false → reward p entries (a ∷ s ∷ e ∷ z ∷ []) ≡ pos 0
-unpaid p entries rewards a s e z are none = sym (no_reward p entries (a ∷ s ∷ e ∷ z ∷ [])
-    (λ k x is c.
-    let d = covering p entries rewards (a ∷ s ∷ e ∷ z ∷ []) k x are is c in
+unpaid p entries rewards a s e z are none = sym (no_reward p _ _ (λ k x is c.
+    let d = covering p _ _ _ k x are is c in
     none d.rule d.among (front_of a s e z d.rule.key x.places d.fits d.digits d.key)))
 
 -- ---- a rule that begins with places that fit
@@ -67,8 +66,7 @@ begins_with : (m low : ℕ) (ps qs : List Place) → AreDigits m ps → AreDigit
 begins_with m low [] qs a b from to = refl
 begins_with zero low (p ∷ ps) qs a b from to = absurd a
 begins_with (suc m) low (p ∷ ps) [] a b from to = search (rules, mul-le-mul_right, key_low, power_some, digit_some)
-begins_with (suc m) low (p ∷ ps) (q ∷ qs) a b from to = ⊎_elim
-    (λ less.
+begins_with (suc m) low (p ∷ ps) (q ∷ qs) a b from to = ⊎_elim (λ less.
     let e : suc m - suc (length ps) ≡ m - length ps = omega arith in
     let f : key_base ^ (suc m - suc (length ps)) ≡ key_base ^ (m - length ps) = ap (λ k. key_base ^ k) e in
     let room = key_room m (low + digit p * key_base ^ m) ps a.1 in
@@ -102,8 +100,8 @@ meets a s ps qs h1 h2 h3 = grind arith
 -- an entry that covers all cells of the action
 meets_all : (a s : ℕ) (ps : List Place) → fit_places ps (a ∷ []) ≡ true → (fits_at ps 0 a ≡ true) × (fits_at ps 1 s ≡ true)
 meets_all a s [] f = (refl, refl)
-meets_all a s (p ∷ []) f = ((and_true (fits_place p a) true f).0, refl)
-meets_all a s (p ∷ q ∷ ps) f = absurd (true≢false (and_true (fits_place p a) false f).1 refl)
+meets_all a s (p ∷ []) f = ((and_true _ true f).0, refl)
+meets_all a s (p ∷ q ∷ ps) f = absurd (true≢false (and_true _ false f).1 refl)
 
 -- such an entry
 abbrev pub IsPaidBy : List Entry → ℕ → ℕ → Type 0
@@ -114,7 +112,7 @@ pub paid : (p : Preamble) (entries : List Entry) (rewards : RewardRules) (a s : 
 paid p entries rewards a s r are small_a small_s among front =
     let e = are.index.sound r among in
     let x = e.0 in
-    let key : key_in most_places (table_key Reward) x.places ≡ r.key = ap (λ u. key_in most_places (table_key u) x.places) (sym e.3)
+    let key = ap (λ u. key_in most_places (table_key u) x.places) (sym e.3)
     ∙ e.2 in
     let both = ⊎_elim
     (λ f. meets_all a s x.places (and_true (is_table x.table Reward) _ (fits_covered Reward (a ∷ []) x e.4 (small_a, tt)
@@ -135,7 +133,6 @@ paid p entries rewards a s r are small_a small_s among front =
   where
     of_two : (ps : List Place) → key_in most_places (table_key Reward) ps ≡ r.key → AreDigits most_places ps → (q t : Place)
         → fit_places (q ∷ t ∷ []) (a ∷ s ∷ []) ≡ true → HasTwo (digit q) (digit t) r.key → (fits_at ps 0 a ≡ true) × (fits_at ps 1 s ≡ true)
-    of_two ps key digits q t fits two = meets a s (q ∷ t ∷ []) ps refl fits
-        (begins_with most_places (table_key Reward) (q ∷ t ∷ []) ps
+    of_two ps key digits q t fits two = meets a s (q ∷ t ∷ []) ps refl fits (begins_with most_places (table_key Reward) (q ∷ t ∷ []) ps
         (fit_digits most_places (q ∷ t ∷ []) (a ∷ s ∷ []) (small_a, (small_s, tt)) fits) digits
         (omega (arith, key, two.0)) (omega (arith, key, two.1)))

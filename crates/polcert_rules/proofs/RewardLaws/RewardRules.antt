@@ -9,11 +9,12 @@ use Rattle.polcert_rules.proofs.Keyed.Fitting.{key_low, key_high}
 pub of_rewards : (entries : List Entry) (rules : List Rule) → IsIndexOf Reward entries rules → (r : Rule) → Contains rules r → IsOfRewards r
 of_rewards entries rules is r among =
     let e = is.sound r among in
-    let key : key_in most_places (table_key Reward) e.0.places ≡ r.key = ap (λ t. key_in most_places (table_key t) e.0.places) (sym e.3)
+    let key = ap (λ t. key_in most_places (table_key t) e.0.places) (sym e.3)
     ∙ e.2 in
-    let low = key_low most_places (table_key Reward) e.0.places in
-    let high = key_high most_places (table_key Reward) e.0.places e.4 in
-    record { low = omega (arith, key, low); high = omega (arith, key, high) }
+    record {
+      low = omega (arith, key, key_low most_places (table_key Reward) e.0.places);
+      high = omega (arith, key, key_high most_places (table_key Reward) e.0.places e.4);
+    }
 
 pub are_rewards : (p : Preamble) (entries : List Entry) (shape : RewardShape) (costs : Bool) (rules : List Rule) (bodies : List RewardBody)
     (numbers : List ℤ)

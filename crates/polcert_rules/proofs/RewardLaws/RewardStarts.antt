@@ -2,7 +2,7 @@
 use Rattle.std.proofs.Common.{◌≡◌, ◌∙◌, ℕ, zero, suc, ◌+◌, ◌*◌, ◌^◌, ◌≤◌, Bool, true, false, ◌&&◌, inl, Option, Some, None, List}
 use Rattle.std.proofs.Common.{[], ◌∷◌, length, drop, Contains, refl, sym, ap, arith, pos}
 use Rattle.std.specs.Prelude.{not, IsTrue}
-use Rattle.polcert_rules.proofs.Common.{Reward, Place, Every, Only, Entry, Preamble, fits_place, fit_places, is_table, covers}
+use Rattle.polcert_rules.proofs.Common.{Reward, Place, Every, Only, Entry, Preamble, fits_place, fit_places, covers}
 use Rattle.polcert_rules.proofs.Common.{reward, reward_of, value_or, Rule, key_base, digit, key_in, table_key, AreDigits, AreIndices}
 use Rattle.polcert_rules.proofs.Common.{most_places, newest_in, IsLastNumber, entry_at, AreRewardsOf, RewardRules}
 use Rattle.std.specs.List.{slice_get}
@@ -44,18 +44,17 @@ module _ (p : Preamble) (entries : List Entry) (rewards : RewardRules) (are : Ar
       → covers Reward (a ∷ s ∷ e ∷ z ∷ []) x ≡ true
       → (covers Reward (a ∷ other ∷ e ∷ z ∷ []) x ≡ true) × (2 ≤ length x.places)
   opened s other e z k x unnamed is c =
-      let d = covering p entries rewards (a ∷ s ∷ e ∷ z ∷ []) k x are is c in
-      let still = leaves_open a s other e z x.places d.rule.key d.fits d.digits d.key (unnamed d.rule d.among) in
-      let both = and_true (is_table x.table Reward) _ c in
+      let d = covering p _ _ _ k x are is c in
+      let still = leaves_open a s _ e z _ _ d.fits d.digits d.key (unnamed d.rule d.among) in
+      let both = and_true _ _ c in
       (ap (λ b. b && fit_places x.places (a ∷ other ∷ e ∷ z ∷ [])) both.0 ∙ still.fits, still.two)
 
   number_moved : (s other e z : ℕ) (number : Option ℕ) → NoneNames rewards a s → NoneNames rewards a other
       → IsLastNumber entries Reward (a ∷ s ∷ e ∷ z ∷ []) number → IsLastNumber entries Reward (a ∷ other ∷ e ∷ z ∷ []) number
-  number_moved s other e z None here there last = λ k x is c. last k x is (opened other s e z k x there is c).0
+  number_moved s other e z None here there last = λ k x is c. last k x is (opened _ s e z k x there is c).0
   number_moved s other e z (Some n) here there last = (
     (last.0.0, last.0.1, (opened s other e z n last.0.0 here last.0.1 last.0.2).0),
-    λ k x is c. last.1 k x is
-        (opened other s e z k x there is c).0,
+    λ k x is c. last.1 k x is (opened _ s e z k x there is c).0,
   )
 
   open_cell : (s other e z n : ℕ) → 2 ≤ n → drop n (a ∷ s ∷ e ∷ z ∷ []) ≡ drop n (a ∷ other ∷ e ∷ z ∷ [])
@@ -71,9 +70,9 @@ module _ (p : Preamble) (entries : List Entry) (rewards : RewardRules) (are : Ar
   pub same_rewards : (s other e z : ℕ) → NoneNames rewards a s → NoneNames rewards a other → AreIndices most_places (a ∷ s ∷ e ∷ z ∷ [])
       → reward p entries (a ∷ s ∷ e ∷ z ∷ []) ≡ reward p entries (a ∷ other ∷ e ∷ z ∷ [])
   same_rewards s other e z here there small =
-      let cell : List ℕ = a ∷ s ∷ e ∷ z ∷ [] in
+      let cell = a ∷ s ∷ e ∷ z ∷ [] in
       let number = newest_in most_places (table_key Reward) rewards.rules cell in
-      let last = last_of_rules p entries rewards cell number are small (newest_is most_places (table_key Reward) rewards.rules cell) in
+      let last = last_of_rules p _ _ cell number are small (newest_is most_places (table_key Reward) rewards.rules cell) in
       number_reward p entries cell number last
       ∙ given_same s other e z number here last
       ∙ sym (number_reward p entries (a ∷ other ∷ e ∷ z ∷ []) number (number_moved s other e z number here there last))

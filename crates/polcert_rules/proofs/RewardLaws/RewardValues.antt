@@ -94,16 +94,15 @@ pub body_reward : (p : Preamble) (entries : List Entry) (rewards : RewardRules) 
 body_reward p entries rewards indices b a opens last =
     let entry = last.last.0.0 in
     let found = last.last.0.1 in
-    let t = covered_table Reward indices entry last.last.0.2 in
-    let s = keyed_at (IsSoundEntry p) entries last.number entry a.sound found in
     ap (λ c. get_or rewards.numbers (b.start + cell_in c rewards.shape.observations (drop b.places indices)) (pos 0)) (sym a.shape.states)
     ∙ ap (λ c. get_or rewards.numbers (b.start + cell_in (count_of p.states) c (drop b.places indices)) (pos 0)) (sym a.shape.observations)
-    ∙ entry_number p entry rewards.numbers b indices t s (last.body entry found) opens
+    ∙ entry_number p _ _ b _ (covered_table Reward indices entry last.last.0.2)
+    (keyed_at (IsSoundEntry p) entries last.number entry a.sound found) (last.body _ found) opens
     ∙ ap (value_or (pos 0) (reward_of p indices)) (sym found) ∙ sym (number_reward p entries indices (Some last.number) last.last)
 
 pub no_reward : (p : Preamble) (entries : List Entry) (indices : List ℕ) → IsLastNumber entries Reward indices None
     → pos 0 ≡ reward p entries indices
-no_reward p entries indices last = sym (number_reward p entries indices None last)
+no_reward p entries indices last = sym (number_reward p _ _ None last)
 
 -- ---- a body with a single number
 pub only_cell : (states observations places a s e z : ℕ) → IsSingle observations places → z < observations
@@ -117,8 +116,7 @@ only_cell_of p states observations n [] w is single = absurd w
 only_cell_of p states observations n (a ∷ []) w is single = absurd w.1
 only_cell_of p states observations n (a ∷ s ∷ []) w is single = absurd w.1.1
 only_cell_of p states observations n (a ∷ s ∷ e ∷ []) w is single = absurd w.1.1.1
-only_cell_of p states observations n (a ∷ s ∷ e ∷ z ∷ []) w is single =
-    only_cell states observations n a s e z single (subst (λ c. z < c) is w.1.1.1.0)
+only_cell_of p states observations n (a ∷ s ∷ e ∷ z ∷ []) w is single = only_cell _ _ n a s e z single (subst (λ c. z < c) is w.1.1.1.0)
 only_cell_of p states observations n (a ∷ s ∷ e ∷ z ∷ x ∷ xs) w is single = absurd w.1.1.1.1
 
 pub single_reward : (p : Preamble) (entries : List Entry) (rewards : RewardRules) (indices : List ℕ) (b : RewardBody)
@@ -127,12 +125,12 @@ pub single_reward : (p : Preamble) (entries : List Entry) (rewards : RewardRules
     → IsLastBody p.costs entries rewards.numbers indices (Some b)
     → reward p entries indices ≡ get_or rewards.numbers (b.start + 0) (pos 0)
 single_reward p entries rewards indices b are within single last =
-    sym (body_reward p entries rewards indices b are (all_open p indices within) last)
+    sym (body_reward p _ _ _ b are (all_open p _ within) last)
     ∙ ap (λ k. get_or rewards.numbers (b.start + k) (pos 0))
-    (only_cell_of p rewards.shape.states rewards.shape.observations b.places indices within are.shape.observations single)
+    (only_cell_of p _ _ _ _ within are.shape.observations single)
 
 -- ---- indices
 pub small_indices : (m : ℕ) (indices : List ℕ) → AreIndices m indices → All (λ i. i < key_base) indices
 small_indices m [] a = All-nil (λ i. i < key_base)
 small_indices zero (i ∷ indices) a = absurd a
-small_indices (suc m) (i ∷ indices) a = All-cons (λ i. i < key_base) i indices (let l = a.0 in omega arith) (small_indices m indices a.1)
+small_indices (suc m) (i ∷ indices) a = All-cons (λ i. i < key_base) i indices (omega arith) (small_indices m indices a.1)

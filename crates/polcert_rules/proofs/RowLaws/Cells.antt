@@ -10,7 +10,7 @@ use Rattle.polcert_rules.proofs.Keyed.Fitting.{equal_numbers}
 use Rattle.polcert_rules.proofs.Indexes.Building.{Among, Stands, among_from, contains_from, each_old, each_kept, rule_of}
 
 pub all_of : (P : Rule → Type 0) (xs : List Rule) → ((r : Rule) → Contains xs r → P r) → All P xs
-all_of P xs h k d l = h (get_or xs k d) (Contains-get_or xs k d l)
+all_of P xs h k d l = h _ (Contains-get_or xs k d l)
 
 -- ---- the columns of a part
 columns_old : (start : ℕ) (part : List Rule) (x : Rule) → ((r : Rule) → Among r part → start ≤ r.key) → Among x (columns_of start part)
@@ -22,8 +22,7 @@ columns_old start (r ∷ rs) x low a = at (eqb ((r.key - start) % key_base) 0) r
         → (Among x (columns_of start rs) → (r : Rule) × Among r rs × (r.key ≡ start + x.key * key_base) × (r.number ≡ x.number))
         → Among x (cond b (rule_of ((r.key - start) / key_base) r.number ∷ columns_of start rs) (columns_of start rs))
         → (q : Rule) × Among q (r ∷ rs) × (q.key ≡ start + x.key * key_base) × (q.number ≡ x.number)
-    at true e ih a = ⊎_elim
-        (λ is.
+    at true e ih a = ⊎_elim (λ is.
         let none_left : (r.key - start) % key_base ≡ 0 = grind (arith, nat_tests) in
         let from : start ≤ r.key = low r (inl refl) in
         let column : (r.key - start) / key_base ≡ x.key = ap (λ (y : Rule). y.key) is in
@@ -34,7 +33,7 @@ columns_old start (r ∷ rs) x low a = at (eqb ((r.key - start) % key_base) 0) r
 columns_new : (start : ℕ) (part : List Rule) (r : Rule) (c : ℕ) → Among r part → r.key ≡ start + c * key_base
     → Among (rule_of c r.number) (columns_of start part)
 columns_new start [] r c a is = absurd a
-columns_new start (x ∷ xs) r c a is = at (eqb ((x.key - start) % key_base) 0) refl (λ b. columns_new start xs r c b is) a
+columns_new start (x ∷ xs) r c a is = at (eqb ((x.key - start) % key_base) 0) refl (λ b. columns_new _ xs r c b is) a
   where
     at : (b : Bool) → eqb ((x.key - start) % key_base) 0 ≡ b → (Among r xs → Among (rule_of c r.number) (columns_of start xs)) → (x ≡ r)
         ⊎ Among r xs
@@ -50,30 +49,23 @@ columns_are rules part start between x = (forth, back)
   where
     forth : Contains (columns_of start part) x → IsColumnRule rules start x
     forth c =
-        let old = columns_old start part x (λ r a. ((between r).0 (contains_from part r a)).1) (among_from (columns_of start part) x c) in
-        let r = (between old.0).0 (contains_from part old.0 old.1) in
-        let key = old.2 in
-        let high = r.2 in
+        let old = columns_old _ part x (λ r a. ((between r).0 (contains_from part r a)).1) (among_from _ x c) in
+        let r = (between _).0 (contains_from part _ old.1) in
         record { rule = old.0; among = r.0; key_is = old.2; column = omega arith; number_is = old.3 }
 
     back : IsColumnRule rules start x → Contains (columns_of start part) x
     back c =
-        let key = c.key_is in
-        let small = c.column in
-        let inside : Contains part c.rule = (between c.rule).1 (c.among, omega arith, omega arith) in
-        let found = columns_new start part c.rule x.key (among_from part c.rule inside) c.key_is in
-        contains_from (columns_of start part) x (subst (λ n. Among (rule_of x.key n) (columns_of start part)) c.number_is found)
+        let found = columns_new _ part _ _ (among_from part _ ((between c.rule).1 (c.among, omega arith, omega arith))) c.key_is in
+        contains_from _ x (subst (λ n. Among (rule_of x.key n) (columns_of start part)) c.number_is found)
 
 -- with those that stand in front
 pub with_columns : (rules part old new : List Rule) (start : ℕ) → IsBetween rules part start (start + (key_base - 2) * key_base)
     → new ≡ old ++ columns_of start part
     → (x : Rule) → Contains new x ↔ (Contains old x ⊎ IsColumnRule rules start x)
 with_columns rules part old new start between is x = (
-  (λ c. ⊎_elim inl (λ b. inr ((columns_are rules part start between x).0 b))
-      (Contains-append_cases old (columns_of start part) x (subst (λ (xs : List Rule). Contains xs x) is c))),
-  (λ e. subst (λ (xs : List Rule). Contains xs x) (sym is)
-      (⊎_elim (Contains-append_left old (columns_of start part) x)
-      (λ c. Contains-append_right old (columns_of start part) x ((columns_are rules part start between x).1 c)) e)),
+  (λ c. ⊎_elim inl (λ b. inr ((columns_are _ part _ between x).0 b)) (Contains-append_cases old _ x (subst (λ xs. Contains xs x) is c))),
+  (λ e. subst (λ xs. Contains xs x) (sym is) (⊎_elim (Contains-append_left old _ x)
+      (λ c. Contains-append_right old _ x ((columns_are _ part _ between x).1 c)) e)),
 )
 
 -- ---- the four kinds of single cells
@@ -101,7 +93,7 @@ gathered_are rules v0 v3 v4 low action state s4 empty i4 shared step4 x = (forth
     fit i = equal_numbers i
 
     nothing : Contains v0 x → IsCell rules low action state x
-    nothing c = absurd (among_from [] x (subst (λ (xs : List Rule). Contains xs x) empty c))
+    nothing c = absurd (among_from [] x (subst (λ xs. Contains xs x) empty c))
 
     forth : Contains v4 x → IsCell rules low action state x
     forth c4 =
@@ -118,7 +110,6 @@ gathered_are rules v0 v3 v4 low action state s4 empty i4 shared step4 x = (forth
 
     back : IsCell rules low action state x → Contains v4 x
     back c =
-        let first = two_digits c.single.first action c.single.fits_action in
         let second = two_digits c.single.second state c.single.fits_state in
         ⊎_elim
         (λ every. ⊎_elim
@@ -126,29 +117,28 @@ gathered_are rules v0 v3 v4 low action state s4 empty i4 shared step4 x = (forth
         (λ one. (step4 x).1 (inl ((shared x).1 (inl (inr (to c (start_of low 1 (state + 2)) 1 (state + 2) refl every one)))))) second)
         (λ only. ⊎_elim
         (λ all. (step4 x).1 (inl ((shared x).1 (inr (to c (start_of low (action + 2) 1) (action + 2) 1 refl only all)))))
-        (λ one. (step4 x).1 (inr (to c s4 (action + 2) (state + 2) i4 only one))) second) first
+        (λ one. (step4 x).1 (inr (to c s4 (action + 2) (state + 2) i4 only one))) second)
+        (two_digits c.single.first action c.single.fits_action)
 
 -- ---- the newest in each column
 pub same_key : (xs : List Rule) (x y : Rule) → IsRising xs → Contains xs x → Contains xs y → x.key ≡ y.key → x.number ≡ y.number
-same_key xs x y up (k, kl, ke) (l, ll, le) e = ⊎_elim
-    (λ less. let h = up k l x less ll in absurd (apart (get_or xs k x) (get_or xs l x) h
+same_key xs x y up (k, kl, ke) (l, ll, le) e = ⊎_elim (λ less. absurd (apart (get_or xs k x) (get_or xs l x) (up k l x less ll)
     (ap (λ (r : Rule). r.key) ke, ap (λ (r : Rule). r.key) (other ∙ le) ∙ sym e)))
     (λ ge. ⊎_elim
-    (λ less. let h = up l k x less kl in absurd (apart (get_or xs l x) (get_or xs k x) h
+    (λ less. absurd (apart (get_or xs l x) (get_or xs k x) (up l k x less kl)
     (ap (λ (r : Rule). r.key) (other ∙ le) ∙ sym e, ap (λ (r : Rule). r.key) ke)))
-    (λ le2. let same : k ≡ l = omega arith in
-    ap (λ (r : Rule). r.number) (sym ke ∙ ap (λ i. get_or xs i x) same ∙ other ∙ le)) (cases_lt l k))
+    (λ le2. ap (λ (r : Rule). r.number) (sym ke ∙ ap (λ i. get_or xs i x) (omega arith) ∙ other ∙ le)) (cases_lt l k))
     (cases_lt k l)
   where
     other : get_or xs l x ≡ get_or xs l y
     other = get_or_default xs l x y ll
 
     apart : (a b : Rule) → a.key < b.key → (a.key ≡ x.key) × (b.key ≡ x.key) → ⊥
-    apart a b h s = let p = s.0 in let q = s.1 in omega arith
+    apart a b h s = omega arith
 
 pub column_found : (xs : List Rule) (c n : ℕ) → at_column xs c ≡ Some n → Among (rule_of c n) xs
 column_found [] c n e = cc
-column_found (x ∷ xs) c n e = at (eqb x.key c) refl (λ f. column_found xs c n f) e
+column_found (x ∷ xs) c n e = at (eqb x.key c) refl (column_found xs c n) e
   where
     at : (b : Bool) → eqb x.key c ≡ b → (at_column xs c ≡ Some n → Among (rule_of c n) xs)
         → cond b (Some x.number) (at_column xs c) ≡ Some n → (x ≡ rule_of c n) ⊎ Among (rule_of c n) xs
@@ -195,6 +185,5 @@ newest_at rules gathered sorted low action state are p up c small = at (at_colum
 pub each_cell : (rules gathered sorted : List Rule) (low action state : ℕ)
     → ((x : Rule) → Contains gathered x ↔ IsCell rules low action state x) → IsPermutation gathered sorted
     → All (IsCell rules low action state) (newest_of_each sorted)
-each_cell rules gathered sorted low action state are p = all_of (IsCell rules low action state) (newest_of_each sorted)
-    (λ x c. (are x).0 (Contains-permutation sorted gathered x (IsPermutation-sym gathered sorted p)
-    (contains_from sorted x (each_old sorted x (among_from (newest_of_each sorted) x c)))))
+each_cell rules gathered sorted low action state are p = all_of _ _ (λ x c. (are x).0 (Contains-permutation _ _ x (IsPermutation-sym _ _ p)
+    (contains_from _ x (each_old _ x (among_from _ x c)))))

@@ -15,18 +15,16 @@ filled_row f (suc n) = subst (λ m. IsRow m f (filled_cells f (suc n))) (add-one
   where
     at : (b : Bool) → ltb 0 (f n) ≡ b → IsRow n f (filled_cells f n)
         → IsRow (n + 1) f (cond b (filled_cells f n ++ cell_of n (f n) ∷ []) (filled_cells f n))
-    at true e row = row_push f n (filled_cells f n) (f n) row refl (grind (arith, nat_tests))
+    at true e row = row_push f n _ _ row refl (grind (arith, nat_tests))
     at false e row =
-        let none : f n ≡ 0 = grind (arith, nat_tests) in
-        row_skip f n (n + 1) (filled_cells f n) row (omega arith)
-        (λ i low high. let same : n ≡ i = omega arith in sym (ap f same) ∙ none)
+        row_skip f n _ _ row (omega arith)
+        (λ i low high. let same : n ≡ i = omega arith in sym (ap f same) ∙ (grind (arith, nat_tests)))
 
 pub filled_sum : (f : ℕ → ℕ) (n : ℕ) → sum_of_weights (filled_cells f n) ≡ sum_below f n
-filled_sum f n = let row = filled_row f n in sum_is n (filled_cells f n) row.sparse ∙ sum_same _ _ n row.each
+filled_sum f n = let row = filled_row f n in sum_is n _ row.sparse ∙ sum_same _ _ n row.each
 
 pub filled_beyond : (f : ℕ → ℕ) (n c : ℕ) → n ≤ c → weight_at (filled_cells f n) c ≡ 0
-filled_beyond f n c l = let row = filled_row f n in
-    weight_beyond 0 n c (filled_cells f n) (climbs_from n (filled_cells f n) row.sparse) l
+filled_beyond f n c l = weight_beyond 0 n c _ (climbs_from n _ (filled_row f n).sparse) l
 
 -- one column more
 next : (f : ℕ → ℕ) (n : ℕ) (xs ys : List Cell) → xs ≡ filled_cells f n → ys ≡ cond (ltb 0 (f n)) (xs ++ cell_of n (f n) ∷ []) xs
@@ -42,26 +40,24 @@ without_weight f n w xs e same none = next f n xs xs e (grind (arith, nat_tests)
 
 -- ---- exceptions in order
 above : (low n : ℕ) (xs : List Cell) → Rises low n xs → All (λ x. low ≤ x.column) xs
-above low n [] h = All-nil (λ x. low ≤ x.column)
-above low n (x ∷ xs) h =
-    let first = h.0 in
-    All-cons (λ x. low ≤ x.column) x xs first (λ k d l. let rest = above (x.column + 1) n xs h.2 k d l in omega arith)
+above low n [] h = All-nil _
+above low n (x ∷ xs) h = All-cons (λ x. low ≤ x.column) x xs h.0 (λ k d l. let rest = above (x.column + 1) n xs h.2 k d l in omega arith)
 
 pub rising : (low n : ℕ) (xs : List Cell) → Rises low n xs → AreRising xs
 rising low n [] h = grind arith
 rising low n (x ∷ xs) h = grind (arith, above, rising (x.column + 1) n xs h.2)
 
 pub within : (low n : ℕ) (xs : List Cell) → Rises low n xs → All (λ x. x.column < n) xs
-within low n [] h = All-nil (λ x. x.column < n)
+within low n [] h = All-nil _
 within low n (x ∷ xs) h = All-cons (λ x. x.column < n) x xs h.1 (within (x.column + 1) n xs h.2)
 
 pub few : (low n : ℕ) (xs : List Cell) → Rises low n xs → low ≤ n → low + length xs ≤ n
 few low n [] h l = omega arith
-few low n (x ∷ xs) h l = let a = h.0 in let b = h.1 in let rest = few (x.column + 1) n xs h.2 (omega arith) in omega (arith, a, rest)
+few low n (x ∷ xs) h l = omega (arith, h.0, few (x.column + 1) n xs h.2 (omega arith))
 
 excepted_low : (w low n c : ℕ) (xs : List Cell) → Rises low n xs → c < low → excepted_weight w xs c ≡ w
 excepted_low w low n c [] h l = refl
-excepted_low w low n c (x ∷ xs) h l = let a = h.0 in grind (arith, nat_tests, excepted_low w (x.column + 1) n c xs h.2 (omega arith))
+excepted_low w low n c (x ∷ xs) h l = grind (arith, nat_tests, excepted_low w (x.column + 1) n c xs h.2 (omega arith))
 
 -- the weight of a column is that of an exception over the same weight in all columns
 pub excepted_over : (w c : ℕ) (xs : List Cell) → excepted_weight w xs c ≡ weight_over xs (λ i. w) c
@@ -72,18 +68,13 @@ excepted_over w c (x ∷ xs) = ap (cond (eqb x.column c) x.weight) (excepted_ove
 -- two lists of weights that differ in one column
 sum_apart : (f g : ℕ → ℕ) (k n : ℕ) → k < n → ((c : ℕ) → (k ≡ c → ⊥) → f c ≡ g c) → sum_below f n + g k ≡ sum_below g n + f k
 sum_apart f g k zero l same = absurd (omega arith)
-sum_apart f g k (suc n) l same = ⊎_elim
-    (λ less. let before = sum_apart f g k n less same in let here = same n (λ e. omega arith) in omega (arith, before, here))
-    (λ ge.
+sum_apart f g k (suc n) l same = ⊎_elim (λ less. omega (arith, sum_apart f g k n less same, same n (λ e. omega arith))) (λ ge.
     let last : k ≡ n = omega arith in
-    let before = sum_same f g n (λ c m. same c (λ e. omega arith)) in
-    let one_side = ap f last in
-    let other_side = ap g last in
-    omega (arith, before, one_side, other_side))
+    omega (arith, sum_same f g n (λ c m. same c (λ e. omega arith)), ap f last, ap g last))
     (cases_lt k n)
 
 pub sum_even : (w n : ℕ) → sum_below (excepted_weight w []) n ≡ n * w
-sum_even w zero = let none : 0 * w ≡ 0 = omega arith in sym none
+sum_even w zero = sym (omega arith)
 sum_even w (suc n) = grind (arith, sum_even w n)
 
 pub excepted_sum : (w low n : ℕ) (xs : List Cell) → Rises low n xs
@@ -115,9 +106,7 @@ pub over_sum : (b low n : ℕ) (xs : List Cell) (f : ℕ → ℕ) → Rises low 
     → ((c : ℕ) → low ≤ c → c < n → weight_over xs f c ≤ b) → sum_of_weights xs ≤ b * length xs
 over_sum b low n [] f h small = omega arith
 over_sum b low n (x ∷ xs) f h small =
-    let a = h.0 in
-    let rest = over_sum b (x.column + 1) n xs f h.2 (λ c m l. let s = small c (omega arith) l in grind (arith, nat_tests)) in
+    let rest = over_sum b (x.column + 1) n xs f h.2 (λ c m l. grind (arith, nat_tests)) in
     let here : weight_over (x ∷ xs) f x.column ≡ x.weight = grind (arith, nat_tests) in
-    let first = small x.column h.0 h.1 in
     let more : b * suc (length xs) ≡ b + b * length xs = grind arith in
-    omega (arith, rest, here, first, more)
+    omega (arith, rest, here, small x.column h.0 h.1, more)

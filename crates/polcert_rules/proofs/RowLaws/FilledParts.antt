@@ -8,8 +8,8 @@ use borrow.Rule.Slice.PartMut.{put_mid}
 at_front : {X : Type 0} (done k i : ℕ) (xs ys : List X) (d : X) → done ≤ length xs → i < done + length ys
     → get_or (put_mid done k xs ys) i d ≡ get_or (take done xs ++ ys) i d
 at_front done k i xs ys d within l =
-    sym (get_or-take (done + length ys) (put_mid done k xs ys) i d l)
-    ∙ ap (λ zs. get_or zs i d) (take-put_mid done k xs ys (done + length ys) refl within)
+    sym (get_or-take _ _ i d l)
+    ∙ ap (λ zs. get_or zs i d) (take-put_mid done k xs ys _ refl within)
 
 -- What was written before stays, and what was written in the part from there on stands after it.
 pub filled_part : {X : Type 0} (P : ℕ → X → Type 0) (done size k : ℕ) (xs ys : List X) (d : X) → done ≤ length xs → size ≤ length ys

@@ -24,12 +24,11 @@ module _ (entries : List Entry) (rules : List Rule) (table : Table) (a s : ℕ) 
       → FitsKey most_places (table_key table) (a ∷ s ∷ c ∷ []) r.key
   widened c r among f =
       let entry = index.sound r among in
-      let named : HasNoSuchColumn entry.0.places = keyed_at (λ (e : Entry). HasNoSuchColumn e.places) entries r.number entry.0 columns
-      entry.1 in
       let back = subst (FitsKey most_places (table_key table) (a ∷ s ∷ no_column ∷ [])) (sym entry.2) f in
-      let covered = fits_covered table (a ∷ s ∷ no_column ∷ []) entry.0 entry.4 (omega arith, (omega arith, (omega arith, tt))) back in
       subst (FitsKey most_places (table_key table) (a ∷ s ∷ c ∷ [])) entry.2
-      (covered_fits table (a ∷ s ∷ c ∷ []) entry.0 (covers_any table entry.0 a s c named covered))
+      (covered_fits table (a ∷ s ∷ c ∷ []) entry.0 (covers_any _ entry.0 a s c
+      (keyed_at (λ (e : Entry). HasNoSuchColumn e.places) entries r.number entry.0 columns entry.1)
+      (fits_covered table (a ∷ s ∷ no_column ∷ []) entry.0 entry.4 (omega arith, (omega arith, (omega arith, tt))) back)))
 
 module _ (entries : List Entry) (rules : List Rule) (table : Table) (a s : ℕ) (split : SplitRules) (columns : HaveColumns entries)
     (index : IsIndexOf table entries rules)
@@ -42,18 +41,15 @@ module _ (entries : List Entry) (rules : List Rule) (table : Table) (a s : ℕ) 
       ⊎ (Contains (others_in split.others) r × IsSingleCellKey (table_key table) a s c r.key)
 
   three_fit : (c : ℕ) (r : Rule) → Three c r → Contains rules r × FitsKey most_places (table_key table) (a ∷ s ∷ c ∷ []) r.key
-  three_fit c r e = ⊎_elim
-      (λ two. ⊎_elim
-      (λ w. (w.0, widened entries rules table a s columns index la ls c r w.0 w.1))
-      (λ z. ((parted.each r).0 (inl z.0), single_fits (table_key table) a s c r.key z.1)) two)
-      (λ o. ((parted.each r).0 (inr o.0), single_fits (table_key table) a s c r.key o.1)) e
+  three_fit c r e = ⊎_elim (λ two. ⊎_elim (λ w. (w.0, widened _ _ _ a s columns index la ls c r w.0 w.1))
+      (λ z. ((parted.each r).0 (inl z.0), single_fits _ a s c _ z.1)) two)
+      (λ o. ((parted.each r).0 (inr o.0), single_fits _ a s c _ o.1)) e
 
   fit_three : (c : ℕ) → c < no_column → (r : Rule) → Contains rules r × FitsKey most_places (table_key table) (a ∷ s ∷ c ∷ []) r.key
       → Three c r
-  fit_three c small r f = ⊎_elim
-      (λ w. inl (inl (f.0, w)))
+  fit_three c small r f = ⊎_elim (λ w. inl (inl (f.0, w)))
       (λ single. ⊎_elim (λ z. inl (inr (z, single))) (λ o. inr (o, single)) ((parted.each r).1 f.0))
-      (fits_split (table_key table) a s c no_column r.key f.1)
+      (fits_split _ a s c _ _ f.1)
 
   row_number : (c : ℕ) (whole zero cell : Option ℕ) → c < no_column
       → IsNewest rules (FitsKey most_places (table_key table) (a ∷ s ∷ no_column ∷ [])) whole
@@ -61,23 +57,22 @@ module _ (entries : List Entry) (rules : List Rule) (table : Table) (a s : ℕ) 
       → IsNewest (others_in split.others) (IsSingleCellKey (table_key table) a s c) cell
       → IsLastNumber entries table (a ∷ s ∷ c ∷ []) (max_option (max_option whole zero) cell)
   row_number c whole zero cell small w z o =
-      let two = greatest_of_two (λ r. Contains rules r × FitsKey most_places (table_key table) (a ∷ s ∷ no_column ∷ []) r.key)
-      (λ r. Contains split.zeros.items r × IsSingleCellKey (table_key table) a s c r.key)
-      whole zero (greatest_of rules _ whole w) (greatest_of split.zeros.items _ zero z) in
-      let three = greatest_of_two _ (λ r. Contains (others_in split.others) r × IsSingleCellKey (table_key table) a s c r.key)
-      (max_option whole zero) cell two (greatest_of (others_in split.others) _ cell o) in
-      let all = newest_of rules (FitsKey most_places (table_key table) (a ∷ s ∷ c ∷ [])) _
-      (greatest_as (Three c) _ _ (three_fit c) (fit_three c small) three) in
-      last_number entries rules table (a ∷ s ∷ c ∷ []) _ index (omega arith, (omega arith, (omega arith, tt))) all
+      let two = greatest_of_two _
+      _
+      _ zero (greatest_of _ _ _ w) (greatest_of _ _ zero z) in
+      let three = greatest_of_two _ _
+      _ cell two (greatest_of _ _ cell o) in
+      let all = newest_of _ _ _
+      (greatest_as _ _ _ (three_fit c) (fit_three c small) three) in
+      last_number _ _ _ _ _ index (omega arith, (omega arith, (omega arith, tt))) all
 
   of_index : (x : Rule) → IsCell (others_in split.others) (table_key table) a s x → IsCell rules (table_key table) a s x
   of_index x c = record {
-    rule = c.rule;
-    among = (parted.each c.rule).0 (inr c.among);
+    rule = _;
+    among = (parted.each _).0 (inr c.among);
     single = c.single;
     column = c.column;
-    number_is =
-        c.number_is;
+    number_is = c.number_is;
   }
 
   zero_is : (c n : ℕ) (o : Option ℕ) → o ≡ Some n → IsNewest split.zeros.items (IsSingleCellKey (table_key table) a s c) o
@@ -94,12 +89,11 @@ module _ (entries : List Entry) (rules : List Rule) (table : Table) (a s : ℕ) 
   row_is row w up newest each ordered zeros = record {
     rising = up;
     ordered = ordered;
-    single = single_entries entries rules table a s row.cells.rules.items index la ls (λ k d l. of_index _ (each k d l));
-    zeros = λ c n l e. zero_is c n (zero_of row.zeros c) e (zeros c (omega arith));
-    whole = last_number entries rules table (a ∷ s ∷ no_column ∷ []) row.whole index (omega arith, (omega arith, (omega arith, tt))) w;
-    last = λ c l.
-        subst (λ u. IsLastNumber entries table (a ∷ s ∷ c ∷ []) (max_option u (at_column row.cells.rules.items c)))
+    single = single_entries _ _ _ a s _ index la ls (λ k d l. of_index _ (each k d l));
+    zeros = λ c n l e. zero_is c n _ e (zeros c (omega arith));
+    whole = last_number _ _ _ _ _ index (omega arith, (omega arith, (omega arith, tt))) w;
+    last = λ c l. subst (λ u. IsLastNumber entries table (a ∷ s ∷ c ∷ []) (max_option u (at_column row.cells.rules.items c)))
         (sym (under_is row.whole row.zeros c))
-        (row_number c row.whole (zero_of row.zeros c) (at_column row.cells.rules.items c) l w (zeros c (omega arith))
+        (row_number c _ _ _ l w (zeros c (omega arith))
         (newest c (omega arith)));
   }

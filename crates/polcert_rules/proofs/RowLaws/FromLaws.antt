@@ -17,13 +17,10 @@ pub drop_is_from : (xs : List Cell) (k column : ℕ) → ((i : ℕ) (d : Cell) �
     → ((i : ℕ) (d : Cell) → k ≤ i → i < length xs → ltb (get_or xs i d).column column ≡ false) → drop k xs ≡ from column xs
 drop_is_from [] zero column low high = refl
 drop_is_from [] (suc k) column low high = refl
-drop_is_from (x ∷ xs) zero column low high =
-    let here : ltb x.column column ≡ false = high 0 x (omega arith) (omega arith) in
-    sym (ap (λ b. cond b (from column xs) (x ∷ xs)) here)
+drop_is_from (x ∷ xs) zero column low high = sym (ap (λ b. cond b (from column xs) (x ∷ xs)) (high 0 x (omega arith) (omega arith)))
 drop_is_from (x ∷ xs) (suc k) column low high =
-    let here : ltb x.column column ≡ true = low 0 x (omega arith) (omega arith) in
     drop_is_from xs k column (λ i d l m. low (suc i) d (omega arith) (omega arith)) (λ i d l m. high (suc i) d (omega arith) (omega arith))
-    ∙ sym (ap (λ b. cond b (from column xs) (x ∷ xs)) here)
+    ∙ sym (ap (λ b. cond b (from column xs) (x ∷ xs)) (low 0 x (omega arith) (omega arith)))
 
 -- where no column below is missing, it is at its own number
 pub full_up_to : (xs : List Cell) (column : ℕ) (x : Cell) → AreRising xs → slice_get xs column ≡ Some x → x.column ≡ column
@@ -42,32 +39,32 @@ from_climbs low n column (x ∷ xs) h = grind (arith, nat_tests, from_climbs (x.
 
 from_weight : (column c : ℕ) (xs : List Cell) → column ≤ c → weight_at (from column xs) c ≡ weight_at xs c
 from_weight column c [] l = refl
-from_weight column c (x ∷ xs) l = grind (arith, nat_tests, weight_tail, from_weight column c xs l)
+from_weight column c (x ∷ xs) l = grind (arith, nat_tests, weight_tail, from_weight _ c xs l)
 
 module _ (n column : ℕ) (xs : List Cell) (sparse : IsSparse n xs) where
   climbs : Climbs column n (from column xs)
-  climbs = from_climbs 0 n column xs (climbs_from n xs sparse)
+  climbs = from_climbs 0 n _ xs (climbs_from n xs sparse)
 
   pub at_here : (x : Cell) → slice_get (from column xs) 0 ≡ Some x → x.column ≡ column → x.weight ≡ weight_at xs column
-  at_here x e same = at (from column xs) refl e ∙ from_weight column column xs (omega arith)
+  at_here x e same = at (from _ xs) refl e ∙ from_weight _ _ xs (omega arith)
     where
       at : (ys : List Cell) → from column xs ≡ ys → slice_get ys 0 ≡ Some x → x.weight ≡ weight_at (from column xs) column
       at [] f g = cc
       at (y ∷ ys) f g = grind (arith, weight_head)
 
   pub at_there : (x : Cell) → slice_get (from column xs) 0 ≡ Some x → (x.column ≡ column → ⊥) → 0 ≡ weight_at xs column
-  at_there x e other = at (from column xs) refl e climbs ∙ from_weight column column xs (omega arith)
+  at_there x e other = at (from _ xs) refl e climbs ∙ from_weight _ _ xs (omega arith)
     where
       at : (ys : List Cell) → from column xs ≡ ys → slice_get ys 0 ≡ Some x → Climbs column n ys → 0 ≡ weight_at (from column xs) column
       at [] f g h = cc
       at (y ∷ ys) f g h = grind (arith, weight_tail, weight_below)
 
   none_from : slice_get (from column xs) 0 ≡ None → (c : ℕ) → column ≤ c → weight_at xs c ≡ 0
-  none_from e c l = sym (from_weight column c xs l) ∙ at (from column xs) e
+  none_from e c l = sym (from_weight _ c xs l) ∙ at (from _ xs) e
     where
       at : (ys : List Cell) → slice_get ys 0 ≡ None → weight_at ys c ≡ 0
       at [] g = refl
       at (y ∷ ys) g = cc
 
   pub at_none : slice_get (from column xs) 0 ≡ None → 0 ≡ weight_at xs column
-  at_none e = sym (none_from e column (omega arith))
+  at_none e = sym (none_from e _ (omega arith))

@@ -13,7 +13,7 @@ zero_given columns entries n s c h = grind arith
 -- ---- the cells that are left
 shown_climbs : (low n : ℕ) (hidden : ℕ → Bool) (xs : List Cell) → Climbs low n xs → Climbs low n (shown hidden xs)
 shown_climbs low n hidden [] h = tt
-shown_climbs low n hidden (x ∷ xs) h = at (hidden x.column) (shown_climbs (x.column + 1) n hidden xs h.3)
+shown_climbs low n hidden (x ∷ xs) h = at (hidden x.column) (shown_climbs (x.column + 1) n _ xs h.3)
   where
     at : (b : Bool) → Climbs (x.column + 1) n (shown hidden xs) → Climbs low n (cond b (shown hidden xs) (x ∷ shown hidden xs))
     at b h1 = grind (arith, climbs_lower)
@@ -25,8 +25,8 @@ shown_weight hidden (x ∷ xs) c = grind (arith, nat_tests, shown_weight hidden 
 shown_row : (n : ℕ) (hidden : ℕ → Bool) (f g : ℕ → ℕ) (xs : List Cell) → ((c : ℕ) → c < n → g c ≡ cond (hidden c) 0 (f c)) → IsRow n f xs
     → IsRow n g (shown hidden xs)
 shown_row n hidden f g xs same row = record {
-  sparse = sparse_from 0 n (shown hidden xs) (shown_climbs 0 n hidden xs (climbs_from n xs row.sparse));
-  each = λ c l. shown_weight hidden xs c ∙ ap (cond (hidden c) 0) (row.each c l) ∙ sym (same c l);
+  sparse = sparse_from 0 n _ (shown_climbs 0 n _ xs (climbs_from n xs row.sparse));
+  each = λ c l. shown_weight _ xs c ∙ ap (cond _ 0) (row.each c l) ∙ sym (same c l);
 }
 
 -- ---- what is under the cells above 0

@@ -54,7 +54,7 @@ weight_with_there c x xs d = grind arith
 -- ---- the weights of newer cells over others
 over_low : (low n c : ℕ) (newer : List Cell) (f : ℕ → ℕ) → Rises low n newer → c < low → weight_over newer f c ≡ f c
 over_low low n c [] f h l = refl
-over_low low n c (x ∷ xs) f h l = let a = h.0 in at (eqb x.column c) refl (over_low (x.column + 1) n c xs f h.2 (omega arith))
+over_low low n c (x ∷ xs) f h l = at (eqb x.column c) refl (over_low (x.column + 1) n c xs f h.2 (omega arith))
   where
     at : (b : Bool) → eqb x.column c ≡ b → weight_over xs f c ≡ f c → cond b x.weight (weight_over xs f c) ≡ f c
     at b h1 h2 = grind (arith, nat_tests)
@@ -74,7 +74,7 @@ pub merged_weights : (low n c : ℕ) (base newer : List Cell) → Climbs low n b
     → weight_at (merged base newer) c ≡ weight_over newer (weight_at base) c
 merged_weights low n c base [] h r = refl
 merged_weights low n c base (x ∷ xs) h r =
-    at (ltb c x.column) refl (eqb x.column c) refl (merged_weights (k + 1) n c (following k base) xs (climbs_after low n k base h) r.2)
+    at (ltb c x.column) refl (eqb x.column c) refl (merged_weights (k + 1) n c _ xs (climbs_after low n k base h) r.2)
   where
     k : ℕ
     k = x.column
@@ -83,7 +83,7 @@ merged_weights low n c base (x ∷ xs) h r =
     rest = merged (following k base) xs
 
     rest_climbs : Climbs (k + 1) n rest
-    rest_climbs = merged_climbs (k + 1) n (following k base) xs (climbs_after low n k base h) r.2
+    rest_climbs = merged_climbs _ n _ xs (climbs_after low n k base h) r.2
 
     at : (b : Bool) → ltb c k ≡ b → (t : Bool) → eqb k c ≡ t → weight_at rest c ≡ weight_over xs (weight_at (following k base)) c
         → weight_at (before k base ++ with_cell x rest) c ≡ cond t x.weight (weight_over xs (weight_at base) c)
@@ -110,8 +110,8 @@ pub merged_row : (n : ℕ) (f : ℕ → ℕ) (base newer : List Cell) → IsRow 
 merged_row n f base newer row r =
     let h = climbs_from n base row.sparse in
     record {
-      sparse = sparse_from 0 n (merged base newer) (merged_climbs 0 n base newer h r);
-      each = λ c l. merged_weights 0 n c base newer h r ∙ over_same newer (weight_at base) f c (row.each c l);
+      sparse = sparse_from 0 n _ (merged_climbs 0 n base _ h r);
+      each = λ c l. merged_weights 0 n c base _ h r ∙ over_same _ _ f c (row.each c l);
     }
 
 -- cells that all have a weight stay as they are over no row
@@ -120,5 +120,5 @@ positive_stay [] positive = refl
 positive_stay (x ∷ xs) positive = grind (arith, nat_tests, positive_stay xs)
 
 pub over_none : (base newer : List Cell) → (length base == 0) ≡ true → list_all has_weight newer ≡ true → newer ≡ merged base newer
-over_none [] newer none positive = positive_stay newer positive
+over_none [] newer none positive = positive_stay _ positive
 over_none (x ∷ xs) newer none positive = absurd (grind (arith, nat_tests))

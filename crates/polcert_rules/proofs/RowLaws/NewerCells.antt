@@ -20,7 +20,7 @@ rules_rise low (r ∷ rs) up above = (
 
 none_below : (low c : ℕ) (rs : List Rule) → RulesRise low rs → c < low → at_column rs c ≡ None
 none_below low c [] h l = refl
-none_below low c (r ∷ rs) h l = at (eqb r.key c) refl (none_below (r.key + 1) c rs h.1 (let a = h.0 in omega arith))
+none_below low c (r ∷ rs) h l = at (eqb r.key c) refl (none_below (r.key + 1) c rs h.1 (omega arith))
   where
     at : (b : Bool) → eqb r.key c ≡ b → at_column rs c ≡ None → cond b (Some r.number) (at_column rs c) ≡ None
     at b h1 h2 = grind (arith, nat_tests)
@@ -76,8 +76,8 @@ module _ (columns : ℕ) (entries : List Entry) (s : ℕ) where
             → Rises low n (cond b (record { column = r.key; weight = given_at columns entries (Some r.number) s r.key } ∷ newer_cells
             columns entries covering_entry s rs) (newer_cells columns entries covering_entry s rs))
         at true rest = (h.0, All-head (λ (r : Rule). r.key < n) r rs within, rest)
-        at false rest = let a = h.0 in rises_lower low (r.key + 1) n (newer_cells columns entries covering_entry s rs) (omega arith) rest
+        at false rest = rises_lower low (r.key + 1) n (newer_cells columns entries covering_entry s rs) (omega arith) rest
           where
             rises_lower : (k low n : ℕ) (xs : List Cell) → k ≤ low → Rises low n xs → Rises k n xs
             rises_lower k low n [] le h = tt
-            rises_lower k low n (x ∷ xs) le h = let a = h.0 in (omega arith, h.1, h.2)
+            rises_lower k low n (x ∷ xs) le h = (omega arith, h.1, h.2)

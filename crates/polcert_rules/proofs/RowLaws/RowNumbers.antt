@@ -37,15 +37,14 @@ fits_split low a s c d key f = at f.places f.fits f.is
         let g = all_fit p q Every ps a s c e in
         inl (record {
           places = p ∷ q ∷ Every ∷ ps;
-          fits = fit_all p q Every ps a s d
-              (record { first = g.first; second = g.second; third = refl; rest = g.rest });
+          fits = fit_all p q Every ps a s d (record { first = g.first; second = g.second; third = refl; rest = g.rest });
           is = is;
         })
     at (p ∷ q ∷ Only n ∷ ps) e is = grind (arith, same_number, all_fit)
 
 pub single_fit : (low a s c key : ℕ) → (i : IsSingleCellKey low a s c key)
     → fit_places (i.first ∷ i.second ∷ Only c ∷ []) (a ∷ s ∷ c ∷ []) ≡ true
-single_fit low a s c key i = fit_all i.first i.second (Only c) [] a s c
+single_fit low a s c key i = fit_all _ _ (Only c) [] a s c
     (record { first = i.fits_action; second = i.fits_state; third = equal_numbers c; rest = refl })
 
 pub single_fits : (low a s c key : ℕ) → IsSingleCellKey low a s c key → FitsKey most_places low (a ∷ s ∷ c ∷ []) key

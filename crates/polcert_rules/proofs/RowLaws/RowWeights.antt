@@ -30,7 +30,7 @@ module _ (shape : Shape) (entries : List Entry) (table : Table) (a s : ℕ) (row
       ≡ weight_by_entries shape.columns entries table a s c
   newer_weights c l =
       ap (λ xs. weight_over xs (λ i. given_at shape.columns entries (covering_entry row i) s i) c) newer_are
-      ∙ newer_over shape.columns entries s (covering_entry row) c row.cells.rules.items h.rising
+      ∙ newer_over _ _ s _ c _ h.rising
       ∙ ap (value_or 0 (λ e. entry_weight shape.columns e s c)) (sym (h.last c l))
 
   pub newer_rises : Rises 0 shape.columns newer
@@ -43,12 +43,11 @@ module _ (shape : Shape) (entries : List Entry) (table : Table) (a s : ℕ) (row
       → IsRow shape.columns (weight_by_entries shape.columns entries table a s) cells
   finished base borrowed_base borrowed_newer cells given_base same_base same_newer e =
       let n = shape.columns in
-      let f = λ (i : ℕ). given_at shape.columns entries (covering_entry row i) s i in
-      let lower = under_row n entries row.whole row.zeros s base h.zeros given_base in
-      let over = merged_row n f (shown_under row.whole row.zeros base) newer lower newer_rises in
-      let is = e ∙ ap (λ (xs : List Cell). merged (shown_under row.whole row.zeros xs) borrowed_newer) same_base
+      let over = merged_row n (λ (i : ℕ). given_at shape.columns entries (covering_entry row i) s i) _ _
+      (under_row n entries row.whole row.zeros s base h.zeros given_base) newer_rises in
+      let is = e ∙ ap (λ xs. merged (shown_under row.whole row.zeros xs) borrowed_newer) same_base
       ∙ ap (merged (shown_under row.whole row.zeros base)) same_newer in
-      subst (λ (xs : List Cell). IsRow n (weight_by_entries n entries table a s) xs) (sym is) (row_same n _ _ _ newer_weights over)
+      subst (λ xs. IsRow n (weight_by_entries n entries table a s) xs) (sym is) (row_same n _ _ _ newer_weights over)
 
   pub finished_small : (cells : List Cell) → IsRow shape.columns (weight_by_entries shape.columns entries table a s) cells → (c : ℕ)
       → c < shape.columns → weight_at cells c ≤ one * shape.columns
@@ -59,11 +58,10 @@ module _ (shape : Shape) (entries : List Entry) (table : Table) (a s : ℕ) (row
       → IsKeptRow shape.columns (given_at shape.columns entries row.whole s) kept n
       → IsKeptRow shape.columns (weight_by_entries shape.columns entries table a s) kept n
   shared_weights kept n zeros none k = record {
-    row = k.row;
+    row = _;
     is = k.is;
-    each = λ c l.
-        k.each c l ∙ ap (λ o. given_at shape.columns entries o s c) (sym (no_zeros row.whole row.zeros c zeros))
-        ∙ sym (ap (λ xs. weight_over xs (λ i. given_at shape.columns entries (covering_entry row i) s i) c) (no_cells newer none))
+    each = λ c l. k.each c l ∙ ap (λ o. given_at shape.columns entries o s c) (sym (no_zeros _ _ c zeros))
+        ∙ sym (ap (λ xs. weight_over xs (λ i. given_at shape.columns entries (covering_entry row i) s i) c) (no_cells _ none))
         ∙ newer_weights c l;
   }
 
@@ -85,11 +83,10 @@ module _ (shape : Shape) (entries : List Entry) (table : Table) (a s : ℕ) (row
       → slice_get kept n ≡ Some (filled_cells (excepted_weight w newer) shape.columns)
       → IsKeptRow shape.columns (weight_by_entries shape.columns entries table a s) kept n
   even_weights w kept n zeros given is = record {
-    row = filled_cells (excepted_weight w newer) shape.columns;
+    row = _;
     is = is;
-    each = λ c l.
-        (filled_row (excepted_weight w newer) shape.columns).each c l ∙ excepted_over w c newer
+    each = λ c l. (filled_row _ _).each c l ∙ excepted_over w c _
         ∙ over_same newer (λ i. w) (λ i. given_at shape.columns entries (covering_entry row i) s i) c
-        (sym (ap (λ o. given_at shape.columns entries o s c) (no_zeros row.whole row.zeros c zeros) ∙ given s c))
+        (sym (ap (λ o. given_at shape.columns entries o s c) (no_zeros _ _ c zeros) ∙ given s c))
         ∙ newer_weights c l;
   }

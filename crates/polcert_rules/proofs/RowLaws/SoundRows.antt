@@ -2,11 +2,11 @@
 use Rattle.std.proofs.Common.{◌≡◌, ◌∙◌, ℕ, zero, suc, ◌+◌, ◌*◌, ◌<◌, ◌≤◌, lit≤, Option, Some, None, List, [], ◌∷◌, ◌++◌, length, All, refl}
 use Rattle.std.proofs.Common.{sym, ap, subst, arith, rules}
 use Rattle.std.specs.List.{slice_get}
-use Rattle.polcert_rules.proofs.Common.{Table, Reward, Place, Only, Entry, Elements, count_of, most_states, most_actions, most_observations}
+use Rattle.polcert_rules.proofs.Common.{Table, Reward, Place, Entry, Elements, count_of, most_states, most_actions, most_observations}
 use Rattle.polcert_rules.proofs.Common.{is_table, fit_places, last_covering, IsLastCovering, last, weight, weight_of, value_or, one}
 use Rattle.polcert_rules.proofs.Common.{Preamble, dimensions, IsWeighted, IsSoundEntry, Rule, Shape, SplitRules, EntryRow, IsSplit}
 use Rattle.polcert_rules.proofs.Common.{IsEntryRowOf}
-use Rattle.polcert_rules.proofs.Common.{covering_entry, key_base, AreDigits, most_places, IsIndexOf, AreKeyed, IsLastNumber, entry_at}
+use Rattle.polcert_rules.proofs.Common.{covering_entry, key_base, AreDigits, most_places, IsIndexOf, AreKeyed, IsLastNumber}
 use Rattle.polcert_rules.proofs.Common.{HaveColumns, IsSingleEntry, no_column, number_in, IsShapeWithin, FitsShape, entry_weight, IsShapeOf}
 use Rattle.polcert_rules.proofs.Common.{AreSound}
 use Rattle.polcert_rules.proofs.Common.{weight_by_entries, IsWholeRowEntry, AreNumbersOf}
@@ -45,8 +45,7 @@ module _ (p : Preamble) (sound : (count_of p.states ≤ most_states) × (count_o
       digits_in 4 _ ps (lit≤ tt) (
         action_digit _ sound.1,
         (
-          element_digit _
-              sound.0,
+          element_digit _ sound.0,
           (element_digit _ sound.0, (element_digit _ (rewarded_few p sound.2), tt)),
         ),
       ) h
@@ -77,17 +76,17 @@ covering entries table indices e f = at (Some e) refl (subst (IsLastCovering ent
     at None g h = cc
     at (Some x) g (last front y following whole here rest) =
         let same : x ≡ e = cc in
-        let both = and_true (is_table x.table table) (fit_places x.places indices) here in
+        let both = and_true _ _ here in
         record {
           number = length front;
-          is = ap (λ (xs : List Entry). slice_get xs (length front)) whole ∙ get_here front following x ∙ ap Some same;
-          of_table = ap (λ (z : Entry). z.table) (sym same) ∙ same_table x.table table both.0;
+          is = ap (λ xs. slice_get xs (length front)) whole ∙ get_here front _ x ∙ ap Some same;
+          of_table = ap (λ (z : Entry). z.table) (sym same) ∙ same_table _ _ both.0;
         }
 
 module _ (p : Preamble) (table : Table) (shape : Shape) (entries : List Entry) (w : IsWeighted table) (is : IsShapeOf p table shape)
     (each : All (IsSoundEntry p) entries) where
   fits : (n : ℕ) (e : Entry) → slice_get entries n ≡ Some e → e.table ≡ table → FitsShape shape e
-  fits n e at t = sound_fits p table shape e w is t (at_number (IsSoundEntry p) entries n e each at)
+  fits n e at t = sound_fits p _ _ e w is t (at_number (IsSoundEntry p) _ n e each at)
 
   -- the weight of a cell, under any preamble of the shape
   pub weight_is : (q : Preamble) (a s c : ℕ) → IsShapeOf q table shape
@@ -98,33 +97,34 @@ module _ (p : Preamble) (table : Table) (shape : Shape) (entries : List Entry) (
           → value_or 0 (λ e. entry_weight shape.columns e s c) o ≡ value_or 0 (weight_of q (a ∷ s ∷ c ∷ [])) o
       at None f = refl
       at (Some e) f =
-          let i = covering entries table (a ∷ s ∷ c ∷ []) e f in
-          sym (given_is q table shape e a s c w like i.of_table (fits i.number e i.is i.of_table).form)
+          let i = covering _ _ _ e f in
+          sym (given_is q _ _ e a s c w like i.of_table (fits i.number e i.is i.of_table).form)
 
   -- a single cell is a number, in a column
   pub newer_is : (r : Rule) → IsSingleEntry entries table r → (r.key < shape.columns) × IsNumberEntry entries r.number
   newer_is r e =
-      let f = fits r.number e.entry e.is e.of_table in
-      let one_number = single_number shape table e.entry e.first e.second (Only r.key) w e.of_table e.places f in
-      let column : HasColumn shape.columns (e.first ∷ e.second ∷ Only r.key ∷ []) = subst (HasColumn shape.columns) e.places f.column in (
-        column,
+      let f = fits r.number _ e.is e.of_table in
+      let one_number = single_number _ _ _ _ _ _ w e.of_table e.places f in (
+        (subst (HasColumn shape.columns) e.places f.column),
         record {
-          entry = e.entry;
+          entry = _;
           is = e.is;
-          written = one_number.written;
+          written = _;
           body = one_number.is;
           small = one_number.small;
-          places =
-              ap length e.places;
+          places = ap length e.places;
         },
       )
 
   module _ (within : IsShapeWithin shape) (a s : ℕ) (row : EntryRow) (h : IsEntryRowOf entries table a s row) where
     whole_is : (o : Option ℕ) → IsLastNumber entries table (a ∷ s ∷ no_column ∷ []) o → IsWholeRowEntry shape entries o
     whole_is None l = tt
-    whole_is (Some n) l =
-        let both = and_true (is_table l.0.0.table table) (fit_places l.0.0.places (a ∷ s ∷ no_column ∷ [])) l.0.2 in
-        (l.0.0, l.0.1, fits n l.0.0 l.0.1 (same_table l.0.0.table table both.0))
+    whole_is (Some n) l = (
+      l.0.0,
+      l.0.1,
+      fits n l.0.0 l.0.1 (same_table l.0.0.table table
+          (and_true (is_table l.0.0.table table) (fit_places l.0.0.places (a ∷ s ∷ no_column ∷ [])) l.0.2).0),
+    )
 
     small_is : (c : ℕ) → weight_by_entries shape.columns entries table a s c ≤ one * shape.columns
     small_is c = at (last_covering entries table (a ∷ s ∷ c ∷ [])) refl
@@ -133,22 +133,21 @@ module _ (p : Preamble) (table : Table) (shape : Shape) (entries : List Entry) (
             → value_or 0 (λ e. entry_weight shape.columns e s c) o ≤ one * shape.columns
         at None f = omega arith
         at (Some e) f =
-            let i = covering entries table (a ∷ s ∷ c ∷ []) e f in
-            given_small shape e s c within (fits i.number e i.is i.of_table)
+            let i = covering _ _ _ e f in
+            given_small _ e s c within (fits i.number e i.is i.of_table)
 
     pub numbers_are : AreNumbersOf shape entries table a s row
     numbers_are =
-        let few = within.columns.1 in
         record {
           rising = h.rising;
           ordered = h.ordered;
           cells = λ k d l. newer_is _ (h.single k d l);
-          zeros = λ c n l e. h.zeros c n (omega arith) e;
+          zeros = λ c n l. h.zeros c n (omega arith);
           covering = whole_is row.whole h.whole;
           last = λ c l.
               let number = number_in (covering_entry row c) row.cells.rules.items c in
-              sym (cells.last_is_one entries table (a ∷ s ∷ c ∷ []) (entry_at entries number)
-              (last_is entries table (a ∷ s ∷ c ∷ []) number (h.last c (omega arith))));
+              sym (cells.last_is_one entries table (a ∷ s ∷ c ∷ []) _
+              (last_is _ _ _ number (h.last c (omega arith))));
           small = λ c l. small_is c;
         }
 

@@ -7,7 +7,7 @@ use Rattle.polcert_rules.proofs.Common.{names_column, others_of, wholes_of}
 use Rattle.std.proofs.lemmas.List.Kept.{AllPairs-filter}
 use Rattle.std.specs.Prelude.{not}
 use Rattle.polcert_rules.specs.Steps.Rows.{AreExact}
-use Rattle.polcert_rules.specs.Steps.Zeros.{is_shared_zero, names_row}
+use Rattle.polcert_rules.specs.Steps.Zeros.{is_shared_zero}
 use Rattle.polcert_rules.proofs.Indexes.Building.{Among, among_from, contains_from}
 use Rattle.polcert_rules.proofs.RowLaws.Cells.{all_of}
 
@@ -31,8 +31,7 @@ module _ (entries : List Entry) where
   below_rest : (r : Rule) (rs : List Rule) (q : Rule) → IsRising (r ∷ rs) → Among q rs → r.key < q.key
   below_rest r rs q up a =
       let c = contains_from rs q a in
-      let less = up 0 (suc c.0) q (omega arith) (let l = c.1 in omega arith) in
-      subst (λ (x : Rule). r.key < x.key) c.2 less
+      subst (λ x. r.key < x.key) c.2 (up 0 (suc c.0) q (omega arith) (let l = c.1 in omega arith))
 
   pub zeros_rise : (rs : List Rule) → IsRising rs → IsRising (zeros_of entries rs)
   zeros_rise [] up = up
@@ -50,8 +49,7 @@ module _ (entries : List Entry) where
     where
       at : (b : Bool) → IsRising (others_of entries rs) → IsRising (cond b (others_of entries rs) (r ∷ others_of entries rs))
       at true ih = ih
-      at false ih = AllPairs-cons (λ x y. x.key < y.key) r (others_of entries rs)
-          (all_of (λ q. r.key < q.key) (others_of entries rs)
+      at false ih = AllPairs-cons (λ x y. x.key < y.key) r (others_of entries rs) (all_of (λ q. r.key < q.key) (others_of entries rs)
           (λ q c. below_rest r rs q up (others_old rs q (among_from (others_of entries rs) q c)))) ih
 
   pub split_is : (rules : List Rule) (split : SplitRules) → IsRising rules → split.zeros.items ≡ zeros_of entries rules
@@ -68,15 +66,14 @@ module _ (entries : List Entry) where
   }
     where
       old_zero : (r : Rule) → Contains split.zeros.items r → Among r rules × (is_zero_entry entries r.number ≡ true)
-      old_zero r c = zeros_old rules r (among_from (zeros_of entries rules) r (subst (λ (xs : List Rule). Contains xs r) z c))
+      old_zero r c = zeros_old rules r (among_from (zeros_of entries rules) r (subst (λ xs. Contains xs r) z c))
 
       old_other : (r : Rule) → Contains (others_in split.others) r → Among r rules
-      old_other r c = others_old rules r (among_from (others_of entries rules) r (subst (λ (xs : List Rule). Contains xs r) o c))
+      old_other r c = others_old rules r (among_from (others_of entries rules) r (subst (λ xs. Contains xs r) o c))
 
       new : (r : Rule) → Contains rules r → Contains split.zeros.items r ⊎ Contains (others_in split.others) r
-      new r c = ⊎_elim
-          (λ a. inl (subst (λ (xs : List Rule). Contains xs r) (sym z) (contains_from (zeros_of entries rules) r a)))
-          (λ a. inr (subst (λ (xs : List Rule). Contains xs r) (sym o) (contains_from (others_of entries rules) r a)))
+      new r c = ⊎_elim (λ a. inl (subst (λ xs. Contains xs r) (sym z) (contains_from (zeros_of entries rules) r a)))
+          (λ a. inr (subst (λ xs. Contains xs r) (sym o) (contains_from (others_of entries rules) r a)))
           (none_lost rules r (among_from rules r c))
 
   -- without zeros the others are all rules

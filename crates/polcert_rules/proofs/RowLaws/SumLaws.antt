@@ -8,30 +8,19 @@ use Rattle.polcert_cells.proofs.SparseLaws.{Climbs, cell_of, climbs_from, weight
 
 sum_without : (x : Cell) (xs : List Cell) (n : ℕ) → n ≤ x.column → sum_below (weight_at (x ∷ xs)) n ≡ sum_below (weight_at xs) n
 sum_without x xs zero l = refl
-sum_without x xs (suc n) l =
-    let before : sum_below (weight_at (x ∷ xs)) n ≡ sum_below (weight_at xs) n = sum_without x xs n (omega arith) in
-    let here : weight_at (x ∷ xs) n ≡ weight_at xs n = weight_tail x xs n (λ e. omega arith) in
-    omega (arith, before, here)
+sum_without x xs (suc n) l = omega (arith, sum_without x xs n (omega arith), weight_tail x xs n (λ e. omega arith))
 
 sum_with : (x : Cell) (xs : List Cell) (n : ℕ) → x.column < n → weight_at xs x.column ≡ 0
     → sum_below (weight_at (x ∷ xs)) n ≡ x.weight + sum_below (weight_at xs) n
 sum_with x xs zero l z = absurd (omega arith)
-sum_with x xs (suc n) l z = ⊎_elim
-    (λ less.
-    let before : sum_below (weight_at (x ∷ xs)) n ≡ x.weight + sum_below (weight_at xs) n = sum_with x xs n less z in
-    let here : weight_at (x ∷ xs) n ≡ weight_at xs n = weight_tail x xs n (λ e. omega arith) in
-    omega (arith, before, here))
-    (λ ge.
+sum_with x xs (suc n) l z = ⊎_elim (λ less. omega (arith, sum_with x xs n less z, weight_tail x xs n (λ e. omega arith))) (λ ge.
     let same : x.column ≡ n = omega arith in
-    let before : sum_below (weight_at (x ∷ xs)) n ≡ sum_below (weight_at xs) n = sum_without x xs n ge in
-    let here : weight_at (x ∷ xs) n ≡ x.weight = weight_head x xs n same in
-    let none : weight_at xs n ≡ 0 = ap (weight_at xs) (sym same) ∙ z in
-    omega (arith, before, here, none))
-    (cases_lt x.column n)
+    omega (arith, sum_without x xs n ge, weight_head x xs n same, ap (weight_at xs) (sym same) ∙ z))
+    (cases_lt _ n)
 
 sum_none : (n : ℕ) → sum_below (weight_at []) n ≡ 0
 sum_none zero = refl
-sum_none (suc n) = let before = sum_none n in omega (arith, before)
+sum_none (suc n) = omega (arith, sum_none n)
 
 sum_climbs : (low n : ℕ) (xs : List Cell) → Climbs low n xs → sum_below (weight_at xs) n ≡ sum_of_weights xs
 sum_climbs low n [] h = sum_none n
@@ -44,25 +33,17 @@ sum_is n xs s = sym (sum_climbs 0 n xs (climbs_from n xs s))
 
 pub sum_small : (f : ℕ → ℕ) (b n : ℕ) → ((c : ℕ) → c < n → f c ≤ b) → sum_below f n ≤ b * n
 sum_small f b zero h = omega arith
-sum_small f b (suc n) h =
-    let before : sum_below f n ≤ b * n = sum_small f b n (λ c l. h c (omega arith)) in
-    let here : f n ≤ b = h n (omega arith) in
-    let product : b * suc n ≡ b * n + b = mul-suc b n in
-    omega (arith, before, here, product)
+sum_small f b (suc n) h = omega (arith, sum_small f b n (λ c l. h c (omega arith)), h n (omega arith), mul-suc b n)
 
 pub sum_same : (f g : ℕ → ℕ) (n : ℕ) → ((c : ℕ) → c < n → f c ≡ g c) → sum_below f n ≡ sum_below g n
 sum_same f g zero h = refl
-sum_same f g (suc n) h =
-    let before : sum_below f n ≡ sum_below g n = sum_same f g n (λ c l. h c (omega arith)) in
-    let here : f n ≡ g n = h n (omega arith) in
-    omega (arith, before, here)
+sum_same f g (suc n) h = omega (arith, sum_same f g n (λ c l. h c (omega arith)), h n (omega arith))
 
 -- ---- rows of numbers
 pub total_scaled : (scale k : ℕ) (ns : List ℕ) → sum_of_weights (scaled_cells scale k ns) ≡ sum ns * scale
-total_scaled scale k [] = let none : 0 * scale ≡ 0 = omega arith in sym none
+total_scaled scale k [] = sym (omega arith)
 total_scaled scale k (n ∷ ns) =
-    let parts : (n + sum ns) * scale ≡ n * scale + sum ns * scale = grind arith in
-    at (total_scaled scale (k + 1) ns) parts (ltb 0 (n * scale)) refl ∙ ap (λ m. m * scale) (sym (sum_by-cons (λ (x : ℕ). x) n ns))
+    at (total_scaled scale (k + 1) ns) (grind arith) (ltb 0 (n * scale)) refl ∙ ap (λ m. m * scale) (sym (sum_by-cons (λ x. x) n ns))
   where
     xs : List Cell
     xs = scaled_cells scale (k + 1) ns
@@ -72,16 +53,12 @@ total_scaled scale k (n ∷ ns) =
     at h1 h2 b h3 = grind (arith, nat_tests)
 
 pub sum_most : (ns : List ℕ) → All (λ n. n ≤ one) ns → sum ns ≤ one * length ns
-sum_most ns a = subst (λ m. sum ns ≤ m) (mul_comm (length ns) one) (sum_by-le (λ (x : ℕ). x) one ns a)
+sum_most ns a = subst (λ m. sum ns ≤ m) (mul_comm (length ns) one) (sum_by-le (λ x. x) one ns a)
 
 -- a sparse row has no more cells than columns
 climbs_few : (low n : ℕ) (xs : List Cell) → Climbs low n xs → length xs ≤ n - low
 climbs_few low n [] h = omega arith
-climbs_few low n (x ∷ xs) h =
-    let rest = climbs_few (x.column + 1) n xs h.3 in
-    let first = h.0 in
-    let inside = h.1 in
-    omega (arith, rest, first, inside)
+climbs_few low n (x ∷ xs) h = omega (arith, climbs_few (x.column + 1) n xs h.3, h.0, h.1)
 
 pub sparse_few : (n : ℕ) (xs : List Cell) → IsSparse n xs → length xs ≤ n
-sparse_few n xs s = let few = climbs_few 0 n xs (climbs_from n xs s) in omega (arith, few)
+sparse_few n xs s = omega (arith, climbs_few 0 n xs (climbs_from n xs s))

@@ -11,13 +11,12 @@ next_place-next-requires t c =
       rising = c.requires.rising;
       few = c.requires.few;
       room = c.requires.room;
-      index =
-          first_index _ _ _ (subst (AreIndices c.args.levels) c.in-Some.ensures.cases.0 c.requires.indices);
+      index = first_index _ _ _ (subst (AreIndices c.args.levels) c.in-Some.ensures.cases.0 c.requires.indices);
     }
 
 pub newest-of_every-requires : goal.newest-of_every-requires
 newest-of_every-requires t c =
-    let d = goes_deeper c.args.rules.now c.args.levels c.args.low c.in-Some.index.now c.in-Some.rest.now c.next_place-next.result
+    let d = goes_deeper _ _ _ _ _ _
     c.requires.few (subst (AreIndices c.args.levels) c.in-Some.ensures.cases.0 c.requires.indices) c.next_place-next.ensures in (
       search rules,
       (
@@ -27,8 +26,7 @@ newest-of_every-requires t c =
           (
             d.few,
             (
-              omega
-                  (arith, d.room_every, c.requires.room),
+              omega (arith, d.room_every, c.requires.room),
               d.indices_are,
             ),
           ),
@@ -38,7 +36,7 @@ newest-of_every-requires t c =
 
 pub newest-of_only-requires : goal.newest-of_only-requires
 newest-of_only-requires t c =
-    let d = goes_deeper c.args.rules.now c.args.levels c.args.low c.in-Some.index.now c.in-Some.rest.now c.next_place-next.result
+    let d = goes_deeper _ _ _ _ _ _
     c.requires.few (subst (AreIndices c.args.levels) c.in-Some.ensures.cases.0 c.requires.indices) c.next_place-next.ensures in (
       search rules,
       (
@@ -48,8 +46,7 @@ newest-of_only-requires t c =
           (
             d.few,
             (
-              omega
-                  (arith, d.room_only, c.requires.room),
+              omega (arith, d.room_only, c.requires.room),
               d.indices_are,
             ),
           ),
@@ -61,16 +58,16 @@ pub returns-in-None : goal.returns-in-None
 returns-in-None t c =
     subst (λ is. IsNewest c.args.rules.now (FitsKey c.args.levels c.args.low is) c.first_at-here.result)
     (sym (no_more _ c.in-None.ensures.cases))
-    (newest_end c.args.rules.now c.args.levels c.args.low _ c.first_at-here.ensures)
+    (newest_end _ _ _ _ c.first_at-here.ensures)
 
 pub returns-in-Some : goal.returns-in-Some
 returns-in-Some t c =
     let next = c.next_place-next.result in
     let rest = c.in-Some.rest.now in
-    let d = goes_deeper c.args.rules.now c.args.levels c.args.low c.in-Some.index.now c.in-Some.rest.now c.next_place-next.result
+    let d = goes_deeper _ _ _ _ _ _
     c.requires.few (subst (AreIndices c.args.levels) c.in-Some.ensures.cases.0 c.requires.indices) c.next_place-next.ensures in
-    let joined = newest_deeper c.args.rules.now _ _ c.args.levels c.args.low c.in-Some.index.now rest _ c.first_at-here.result
-    c.newest-of_every.result c.newest-of_only.result d.deeper
+    let joined = newest_deeper _ _ _ _ _ _ rest _ _
+    _ _ d.deeper
     c.first_at-here.ensures d.span_every (at_every (λ k low. IsNewest next.of_every.now (FitsKey k low rest) c.newest-of_every.result) _ _ _
     _
     next c.next_place-next.ensures c.newest-of_every.ensures)

@@ -7,6 +7,5 @@ pub returns : goal.returns
 returns c above = record {
   within = omega (arith, c.if-place-rules.false);
   front = c.all_below.ensures c.if-not-all_below.false;
-  rest = λ r among. c.none_below.ensures above r (subst (λ (xs : List Rule). Contains xs r) (sym (drop_whole c.args.place c.args.rules.now))
-      among);
+  rest = λ r among. c.none_below.ensures above r (subst (λ xs. Contains xs r) (sym (drop_whole c.args.place c.args.rules.now)) among);
 }

@@ -12,4 +12,4 @@ few (p ∷ q ∷ r ∷ s ∷ t ∷ ps) digits l = digits.1.1.1.1
 
 pub returns-in_default-2 : goal.returns-in_default-2
 returns-in_default-2 c = absurd (few (entry_of c.args.entry).places c.requires
-    (subst (λ (ps : List Place). 5 ≤ length ps) c.as_slice.ensures c.in_default.len_at_least))
+    (subst (λ ps. 5 ≤ length ps) c.as_slice.ensures c.in_default.len_at_least))

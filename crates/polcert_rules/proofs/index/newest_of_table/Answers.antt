@@ -8,6 +8,6 @@ newest-requires-clause-from c r among = ((c.rules_between.ensures.kept r).0 amon
 
 pub returns : goal.returns
 returns c =
-    let low_is = ap (λ s. c.table_digit.result * s) c.span.ensures ∙ ap (λ d. d * key_base ^ 4) c.table_digit.ensures in
-    newest_in c.args.rules.now c.rules_between.result.now c.args.table c.args.indices.now (c.table_digit.result * c.span.result)
-    c.span-2.result c.newest.result low_is c.span-2.ensures c.requires.indices c.rules_between.ensures.kept c.newest.ensures
+    newest_in _ _ _ _ _
+    _ _ (ap (λ s. c.table_digit.result * s) c.span.ensures ∙ ap (λ d. d * key_base ^ 4) c.table_digit.ensures) c.span-2.ensures
+    c.requires.indices c.rules_between.ensures.kept c.newest.ensures

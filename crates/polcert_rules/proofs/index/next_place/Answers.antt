@@ -24,10 +24,10 @@ returns c =
     record {
       levels_are = refl;
       every_is = ap (λ s. c.args.low + s) is;
-      of_every = subst (λ s. IsSpan c.args.rules.now c.rules_between.result.now (c.args.low + step) s) is c.rules_between.ensures.kept;
+      of_every = subst (IsSpan c.args.rules.now c.rules_between.result.now (c.args.low + step)) is c.rules_between.ensures.kept;
       every_rises = c.rules_between.ensures.rising;
       only_is = ap (λ s. c.args.low + (c.args.index + 2) * s) is;
-      of_only = subst (λ s. IsSpan c.args.rules.now c.rules_between-2.result.now (c.args.low + (c.args.index + 2) * step) s) is
+      of_only = subst (IsSpan c.args.rules.now c.rules_between-2.result.now (c.args.low + (c.args.index + 2) * step)) is
           c.rules_between-2.ensures.kept;
       only_rises = c.rules_between-2.ensures.rising;
     }

@@ -4,12 +4,12 @@ use Rattle.polcert_rules.proofs.Keyed.KeyRanges.{parted, found_cut, cut_front}
 use Rattle.polcert_rules.proofs.index.rules_before_at.Goals as goal
 
 pub returns-then-is_cut-clause-kept : goal.returns-then-is_cut-clause-kept
-returns-then-is_cut-clause-kept c = cut_front c.args.rules.now c.args.high c.args.place (c.is_cut.ensures c.if-is_cut.true)
+returns-then-is_cut-clause-kept c = cut_front _ _ _ (c.is_cut.ensures c.if-is_cut.true)
 
 pub returns-clause-kept : goal.returns-clause-kept
 returns-clause-kept c =
     let xs = c.args.rules.now in
     let n = c.partition_point-end.result in
-    let cut = IsPartitionPoint-from_clause (λ (x : Rule). ltb x.key c.args.high) xs n c.partition_point-end.ensures.partitioned
-    (parted xs c.args.high c.requires) (λ a x q k. search rules) in
-    cut_front xs c.args.high n (found_cut xs n c.args.high c.partition_point-end.ensures.bound cut)
+    cut_front xs _ n (found_cut xs n _ c.partition_point-end.ensures.bound
+    (IsPartitionPoint-from_clause (λ (x : Rule). ltb x.key c.args.high) xs n c.partition_point-end.ensures.partitioned
+    (parted xs c.args.high c.requires) (λ a x q k. search rules)))

@@ -8,4 +8,4 @@ returns-clause-kept c = λ r.
     ((λ h. let o = outer.0 h in let i = inner.0 o.0 in (i.0, i.1, o.1)), (λ h. outer.1 (inner.1 (h.0, h.1), h.2)))
 
 pub returns-then-none_below-clause-kept : goal.returns-then-none_below-clause-kept
-returns-then-none_below-clause-kept c = none_between c.args.rules.now c.args.low c.args.high (c.none_below.ensures c.if-none_below.true)
+returns-then-none_below-clause-kept c = none_between _ _ _ (c.none_below.ensures c.if-none_below.true)

@@ -24,21 +24,21 @@ loop-number-preserved c =
     let d = table_digit c.args.table in
     let entry = c.table_of.ensures.0 in
     let found = c.table_of.ensures.1 in
-    let inside = slice_get_within entries n entry found in
+    let inside = slice_get_within _ n _ found in
     let next : suc n ≡ n + 1 = omega arith in
-    let here : drop n entries ≡ entry ∷ drop (n + 1) entries =
-    drop-cons entries n entry inside ∙ (λ i. get_or_from_slice_get entries n entry entry found i ∷ drop (next i) entries) in
     let old = c.loop-number.rules.items in
     let all = rules_from d 0 entries in
-    let before = subst (λ (es : List Entry). old ++ rules_from d n es ≡ all) here c.loop-number.invariant in
+    let before = subst (λ es. old ++ rules_from d n es ≡ all)
+    (drop-cons entries n entry inside ∙ (λ i. get_or_from_slice_get entries n entry entry found i ∷ drop (next i) entries))
+    c.loop-number.invariant in
     elim c.if-eq.branch [
       | then-eq+in_ok-push w ↦
           let same : c.table_of.result ≡ c.args.table = search rules in
-          let key : w.key_of-key.result ≡ key_of entry = w.key_of-key.ensures ∙ ap key_of (same_Some _ _ (sym w.at.ensures ∙ found)) in
-          rw w.rules-is (taken d n entry (drop (n + 1) entries) old all before w.push.new.self.items
-          (ap table_digit (c.table_of.ensures.2 ∙ same)) (w.in_ok-push.ensures.items ∙ ap (λ k. old ++ with_key k n ∷ []) key))
+          rw w.rules-is (taken d n entry _ old all before _
+          (ap table_digit (c.table_of.ensures.2 ∙ same)) (w.in_ok-push.ensures.items
+          ∙ ap (λ k. old ++ with_key k n ∷ []) (w.key_of-key.ensures ∙ ap key_of (same_Some _ _ (sym w.at.ensures ∙ found)))))
       | else-eq w ↦
           let other : (c.table_of.result ≡ c.args.table) → ⊥ = search rules in
-          rw w.rules-is (passed d n entry (drop (n + 1) entries) old all before
-          (λ e. other (sym c.table_of.ensures.2 ∙ table_of_digit entry.table c.args.table e)))
+          rw w.rules-is (passed d n entry _ old all before
+          (λ e. other (sym c.table_of.ensures.2 ∙ table_of_digit _ _ e)))
     ]

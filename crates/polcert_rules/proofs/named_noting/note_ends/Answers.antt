@@ -12,31 +12,34 @@ pub note_observations-requires : goal.note_observations-requires
 note_observations-requires c =
     let next = c.next_place-next.result in
     let n = c.next_place-next.ensures in
-    let d = goes_deeper c.args.rules.now 2 c.args.low c.args.end [] next (omega arith) (c.requires.end, tt) n in
-    let room : next.every + key_base ^ 1 ≤ c.args.low + key_base ^ 2 =
-    subst (λ k. next.every + key_base ^ k ≤ c.args.low + key_base ^ 2) n.levels_are d.room_every in
-    record { rising = n.every_rises; from = d.from_every; room = omega (arith, room, c.requires.room) }
+    let d = goes_deeper _ 2 _ _ [] next (omega arith) (c.requires.end, tt) n in
+    record {
+      rising = n.every_rises;
+      from = d.from_every;
+      room = omega (arith, subst (λ k. next.every + key_base ^ k ≤ c.args.low + key_base ^ 2) n.levels_are d.room_every, c.requires.room);
+    }
 
 pub note_observations-requires-2 : goal.note_observations-requires-2
 note_observations-requires-2 c =
     let next = c.next_place-next.result in
     let n = c.next_place-next.ensures in
-    let d = goes_deeper c.args.rules.now 2 c.args.low c.args.end [] next (omega arith) (c.requires.end, tt) n in
-    let room : next.only + key_base ^ 1 ≤ c.args.low + key_base ^ 2 =
-    subst (λ k. next.only + key_base ^ k ≤ c.args.low + key_base ^ 2) n.levels_are d.room_only in
-    record { rising = n.only_rises; from = d.from_only; room = omega (arith, room, c.requires.room) }
+    let d = goes_deeper _ 2 _ _ [] next (omega arith) (c.requires.end, tt) n in
+    record {
+      rising = n.only_rises;
+      from = d.from_only;
+      room = omega (arith, subst (λ k. next.only + key_base ^ k ≤ c.args.low + key_base ^ 2) n.levels_are d.room_only, c.requires.room);
+    }
 
 pub returns : goal.returns
 returns c = λ t z l.
-    let rules = c.args.rules.now in
     let next = c.next_place-next.result in
     let n = c.next_place-next.ensures in
-    let d = goes_deeper rules 2 c.args.low c.args.end [] next (omega arith) (c.requires.end, tt) n in
+    let d = goes_deeper c.args.rules.now 2 _ _ [] next (omega arith) (c.requires.end, tt) n in
     let first = noted_at c.note_all.new.self z in
     let second = noted_at c.note_observations.new.list z in
     let after = noted_at c.note_observations-2.new.list z in
-    noted_deeper rules next.of_every.now next.of_only.now 2 c.args.low c.args.end [] z (key_base ^ 1) c.first_at.result
-    (noted_at c.args.list.now z) first second after
+    noted_deeper c.args.rules.now _ _ 2 _ _ [] z _ _
+    _ _ _ _
     (c.requires.end, tt) refl l refl c.first_at.ensures (c.note_all.ensures z)
     d.span_every (subst (λ k. IsNoted next.of_every.now (FitsKey 1 k (z ∷ [])) first second) n.every_is
     (c.note_observations.ensures c.if-not-note_observations.false z l))

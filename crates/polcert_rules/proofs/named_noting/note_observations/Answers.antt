@@ -13,14 +13,12 @@ pub returns : goal.returns
 returns c = λ t z l.
     let rules = c.args.rules.now in
     let low = c.args.low in
-    let before = noted_at c.args.list.now z in
     let first = noted_at c.note_all.new.self z in
-    let second = noted_at c.note_all-2.new.self z in
     let after = noted_at c.note_named_rules.new.list z in
     let same : 0 + z ≡ z = omega arith in
-    let last = noted_last rules c.rules_from.result.now c.rules_between.result.now low 0 (key_base - 2) z (low + 2) c.first_at-2.result
-    first second after
+    let last = noted_last _ _ _ low 0 _ z _ _
+    _ (noted_at c.note_all-2.new.self z) _
     (omega (arith, l)) (omega arith) c.rules_from.ensures.kept c.first_at-2.ensures (c.note_all-2.ensures z) c.rules_between.ensures.kept
     (c.note_named_rules.ensures t z) in
-    noted_end rules low z c.first_at.result before first after c.first_at.ensures (c.note_all.ensures z)
+    noted_end _ low z _ (noted_at c.args.list.now z) _ _ c.first_at.ensures (c.note_all.ensures z)
     (subst (λ y. IsNoted rules (IsLastPlace low y) first after) same last)

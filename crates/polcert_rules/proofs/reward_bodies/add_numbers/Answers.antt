@@ -8,9 +8,8 @@ pub loop-h-preserved : goal.loop-h-preserved
 loop-h-preserved c =
     let read = get_or c.args.written.now c.loop-h.h-index (pos 0) in
     let fits : FitsSigned w64 read = search rules in
-    let is : c.reward_of.result ≡ worth c.args.costs read = c.reward_of.ensures ∙ ap (worth c.args.costs) (to_z-of_z w64 read fits) in
     let fits_again : FitsSigned w64 c.reward_of.result = search rules in
-    let pushed : c.push.new.self.items ≡ c.loop-h.numbers.items ++ c.reward_of.result ∷ [] =
-    c.in_ok-push.ensures.items ∙ ap (λ (h : ℤ). c.loop-h.numbers.items ++ h ∷ []) (to_z-of_z w64 c.reward_of.result fits_again) in
-    one_more (worth c.args.costs) c.args.written.now c.loop-h.h-index (pos 0) c.reward_of.result c.loop-h.numbers.items _ _
-    c.loop-h-test.true is pushed c.loop-h.invariant
+    one_more _ _ _ _ _ _ _ _
+    c.loop-h-test.true (c.reward_of.ensures ∙ ap (worth c.args.costs) (to_z-of_z w64 read fits))
+    (c.in_ok-push.ensures.items ∙ ap (λ (h : ℤ). c.loop-h.numbers.items ++ h ∷ []) (to_z-of_z w64 c.reward_of.result fits_again))
+    c.loop-h.invariant

@@ -9,7 +9,7 @@ same (h ∷ hs) = ap (λ ks. h ∷ ks) (same hs)
 pub returns-then-not-costs : goal.returns-then-not-costs
 returns-then-not-costs c =
     let rewards : c.args.costs ≡ false = search rules in
-    same c.args.written.items ∙ sym (ap (λ b. map (worth b) c.args.written.items) rewards)
+    same _ ∙ sym (ap (λ b. map (worth b) c.args.written.items) rewards)
 
 pub returns : goal.returns
 returns c =

@@ -17,18 +17,18 @@ three rules v0 v1 v2 v3 low action state step1 step2 step3 x = (
 pub returns-then-split : goal.returns-then-split
 returns-then-split c x =
     let low = c.requires.low in
-    let none = of_no_action (others_in c.args.split.now.others) c.args.low low.0 low.2 (c.requires.exact c.if-split.true) in
-    let no_state = of_each_state (others_in c.args.split.now.others) c.args.low low.0 low.2 (c.requires.exact c.if-split.true) in (
+    let none = of_no_action _ _ _ low.2 (c.requires.exact c.if-split.true) in
+    let no_state = of_each_state _ _ _ low.2 (c.requires.exact c.if-split.true) in (
       (λ e. inl (inl (inl e))),
       ⊎_elim (⊎_elim (⊎_elim (λ e. e) (λ i. absurd (none 1 x (omega arith) i)))
-          (λ i. absurd (none (c.args.state + 2) x c.requires.state i))) (λ i. absurd (no_state (c.args.action + 2) x c.requires.action i)),
+          (λ i. absurd (none _ x c.requires.state i))) (λ i. absurd (no_state (c.args.action + 2) x c.requires.action i)),
     )
 
 pub returns : goal.returns
 returns c =
     let rules = c.other_rules-rules.ensures in
-    three (others_in c.args.split.now.others) c.args.cells.now.items c.add_columns.new.cells.items c.add_columns-2.new.cells.items
-    c.add_columns-3.new.cells.items c.args.low c.args.action c.args.state
+    three _ _ _ _
+    _ c.args.low c.args.action c.args.state
     (rw (rules, c.first_column.ensures.is) at c.in_ok-add_columns.ensures)
     (rw (rules, c.first_column-2.ensures.is) at c.in_ok-add_columns-2.ensures)
     (rw (rules, c.first_column-3.ensures.is) at c.in_ok-add_columns-3.ensures)

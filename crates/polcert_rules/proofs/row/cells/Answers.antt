@@ -11,23 +11,23 @@ returns-clause-rising c = let s = c.sort_newest.ensures in subst IsRising (sym s
 
 pub returns-clause-newest : goal.returns-clause-newest
 returns-clause-newest c =
-    let gathered = gathered_are (others_in c.args.split.now.others) c.clear.new.self.items c.add_shared_columns.new.cells.items
-    c.add_columns_at.new.cells.items c.args.low c.args.action c.args.state
+    let gathered = gathered_are _ _ _
+    _ _ _ _
     _ c.clear.ensures.items c.first_column-start.ensures.is c.in_ok-add_shared_columns.ensures
     (rw c.other_rules.ensures at c.in_ok-next.ensures) in
     let s = c.sort_newest.ensures in
-    let all = newest_at (others_in c.args.split.now.others) _ _ c.args.low c.args.action c.args.state gathered
+    let all = newest_at _ _ _ _ _ _ gathered
     s.permutation (each_rises _ s.ordered) in
-    subst (λ (xs : List Rule). (n : ℕ) → n + 2 < key_base
+    subst (λ xs. (n : ℕ) → n + 2 < key_base
     → IsNewest (others_in c.args.split.now.others) (IsSingleCellKey c.args.low c.args.action c.args.state n) (at_column xs n)) (sym s.is)
     all
 
 pub returns-clause-each : goal.returns-clause-each
 returns-clause-each c =
-    let gathered = gathered_are (others_in c.args.split.now.others) c.clear.new.self.items c.add_shared_columns.new.cells.items
-    c.add_columns_at.new.cells.items c.args.low c.args.action c.args.state
+    let gathered = gathered_are _ _ _
+    _ _ _ _
     _ c.clear.ensures.items c.first_column-start.ensures.is c.in_ok-add_shared_columns.ensures
     (rw c.other_rules.ensures at c.in_ok-next.ensures) in
     let s = c.sort_newest.ensures in
-    let all = each_cell (others_in c.args.split.now.others) _ _ c.args.low c.args.action c.args.state gathered s.permutation in
-    subst (λ (xs : List Rule). All (IsCell (others_in c.args.split.now.others) c.args.low c.args.action c.args.state) xs) (sym s.is) all
+    let all = each_cell _ _ _ _ _ _ gathered s.permutation in
+    subst (λ xs. All (IsCell (others_in c.args.split.now.others) c.args.low c.args.action c.args.state) xs) (sym s.is) all

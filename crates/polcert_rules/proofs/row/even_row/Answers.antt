@@ -7,5 +7,5 @@ pub loop-column-preserved : goal.loop-column-preserved
 loop-column-preserved c =
     let k = c.loop-column.column in
     let w = c.args.weight in
-    subst (λ (xs : List Cell). IsRow (k + 1) (λ (i : ℕ). w) xs) (sym c.in_ok-push.ensures.items)
-    (row_push (λ (i : ℕ). w) k c.loop-column.cells.items w c.loop-column.invariant refl (omega arith))
+    subst (λ xs. IsRow (k + 1) (λ i. w) xs) (sym c.in_ok-push.ensures.items)
+    (row_push (λ i. w) k _ w c.loop-column.invariant refl (omega arith))

@@ -12,15 +12,13 @@ next_place-next-requires t c =
       rising = c.requires.rising;
       few = c.requires.few;
       room = c.requires.room;
-      index =
-          first_index _ _ _ (subst (AreIndices c.args.levels) c.in-Some.ensures.cases.0 c.requires.indices);
+      index = first_index _ _ _ (subst (AreIndices c.args.levels) c.in-Some.ensures.cases.0 c.requires.indices);
     }
 
 pub note-requires : goal.note-requires
 note-requires t c =
-    let d = goes_deeper c.args.rules.now c.args.levels c.args.low c.in-Some.index.now c.in-Some.rest.now c.next_place-next.result
-    c.requires.few (subst (AreIndices c.args.levels) c.in-Some.ensures.cases.0 c.requires.indices) c.next_place-next.ensures in
-    let size : length c.args.indices.now ≡ length (c.in-Some.index.now ∷ c.in-Some.rest.now) = ap length c.in-Some.ensures.cases.0 in (
+    let d = goes_deeper _ _ _ _ _ _
+    c.requires.few (subst (AreIndices c.args.levels) c.in-Some.ensures.cases.0 c.requires.indices) c.next_place-next.ensures in (
       search rules,
       (
         c.next_place-next.ensures.every_rises,
@@ -29,8 +27,7 @@ note-requires t c =
           (
             d.few,
             (
-              omega
-                  (arith, size, c.requires.last, c.next_place-next.ensures.levels_are),
+              omega (arith, ap length c.in-Some.ensures.cases.0, c.requires.last, c.next_place-next.ensures.levels_are),
               (omega (arith, d.room_every, c.requires.room), (d.indices_are, omega (arith, c.note_all.auto.noted, c.requires.small))),
             ),
           ),
@@ -40,9 +37,8 @@ note-requires t c =
 
 pub note-requires-in-Some : goal.note-requires-in-Some
 note-requires-in-Some t c =
-    let d = goes_deeper c.args.rules.now c.args.levels c.args.low c.in-Some.index.now c.in-Some.rest.now c.next_place-next.result
-    c.requires.few (subst (AreIndices c.args.levels) c.in-Some.ensures.cases.0 c.requires.indices) c.next_place-next.ensures in
-    let size : length c.args.indices.now ≡ length (c.in-Some.index.now ∷ c.in-Some.rest.now) = ap length c.in-Some.ensures.cases.0 in (
+    let d = goes_deeper _ _ _ _ _ _
+    c.requires.few (subst (AreIndices c.args.levels) c.in-Some.ensures.cases.0 c.requires.indices) c.next_place-next.ensures in (
       search rules,
       (
         c.next_place-next.ensures.only_rises,
@@ -51,14 +47,12 @@ note-requires-in-Some t c =
           (
             d.few,
             (
-              omega
-                  (arith, size, c.requires.last, c.next_place-next.ensures.levels_are),
+              omega (arith, ap length c.in-Some.ensures.cases.0, c.requires.last, c.next_place-next.ensures.levels_are),
               (
                 omega (arith, d.room_only, c.requires.room),
                 (
                   d.indices_are,
-                  omega
-                      (arith, c.note_all.auto.noted, c.note.auto.noted, c.requires.small),
+                  omega (arith, c.note_all.auto.noted, c.note.auto.noted, c.requires.small),
                 ),
               ),
             ),
@@ -69,22 +63,18 @@ note-requires-in-Some t c =
 
 pub note_last-requires-clause-room : goal.note_last-requires-clause-room
 note_last-requires-clause-room t c =
-    let size : length c.args.indices.now ≡ 0 = c.in-None.ensures.cases in
-    let one : c.args.levels ≡ 1 = omega (arith, size, c.requires.last) in
-    let room : c.args.low + key_base ^ 1 < 2 ^ 64 = subst (λ k. c.args.low + key_base ^ k < 2 ^ 64) one c.requires.room in
-    omega (arith, room, c.requires.small, c.note_all.auto.noted)
+    let one : c.args.levels ≡ 1 = omega (arith, c.in-None.ensures.cases, c.requires.last) in
+    omega (arith, subst (λ k. c.args.low + key_base ^ k < 2 ^ 64) one c.requires.room, c.requires.small, c.note_all.auto.noted)
 
 pub returns-in-None : goal.returns-in-None
 returns-in-None t c = λ i l.
     let z = c.args.first + i in
-    let none : c.args.indices.now ≡ [] = no_more _ c.in-None.ensures.cases in
-    let size : length c.args.indices.now ≡ 0 = c.in-None.ensures.cases in
-    let one : 1 ≡ c.args.levels = omega (arith, size, c.requires.last) in
-    subst (λ (is : List ℕ). IsNoted c.args.rules.now (FitsKey c.args.levels c.args.low (is ++ z ∷ [])) (get_or c.args.noted.now i None)
-    (get_or c.note_last.new.noted i None)) (sym none)
+    let one : 1 ≡ c.args.levels = omega (arith, c.in-None.ensures.cases, c.requires.last) in
+    subst (λ is. IsNoted c.args.rules.now (FitsKey c.args.levels c.args.low (is ++ z ∷ [])) (get_or c.args.noted.now i None)
+    (get_or c.note_last.new.noted i None)) (sym (no_more _ c.in-None.ensures.cases))
     (subst (λ k. IsNoted c.args.rules.now (FitsKey k c.args.low (z ∷ [])) (get_or c.args.noted.now i None)
     (get_or c.note_last.new.noted i None)) one
-    (noted_end c.args.rules.now c.args.low z c.first_at.result _ _ _ c.first_at.ensures (c.note_all.ensures i l)
+    (noted_end _ _ z _ _ _ _ c.first_at.ensures (c.note_all.ensures i l)
     (c.note_last.ensures i (omega (arith, l, c.note_all.auto.noted)))))
 
 pub returns-in-Some : goal.returns-in-Some
@@ -92,14 +82,14 @@ returns-in-Some t c = λ i l.
     let z = c.args.first + i in
     let next = c.next_place-next.result in
     let rest = c.in-Some.rest.now in
-    let d = goes_deeper c.args.rules.now c.args.levels c.args.low c.in-Some.index.now c.in-Some.rest.now c.next_place-next.result
+    let d = goes_deeper _ _ _ _ _ _
     c.requires.few (subst (AreIndices c.args.levels) c.in-Some.ensures.cases.0 c.requires.indices) c.next_place-next.ensures in
-    let size : length c.args.indices.now ≡ length (c.in-Some.index.now ∷ rest) = ap length c.in-Some.ensures.cases.0 in
-    subst (λ (is : List ℕ). IsNoted c.args.rules.now (FitsKey c.args.levels c.args.low (is ++ z ∷ [])) (get_or c.args.noted.now i None)
+    subst (λ is. IsNoted c.args.rules.now (FitsKey c.args.levels c.args.low (is ++ z ∷ [])) (get_or c.args.noted.now i None)
     (get_or c.note-in-Some.new.noted i None)) (sym c.in-Some.ensures.cases.0)
-    (noted_deeper c.args.rules.now next.of_every.now next.of_only.now c.args.levels c.args.low c.in-Some.index.now rest z _
-    c.first_at.result _ _ _ _
-    (subst (AreIndices c.args.levels) c.in-Some.ensures.cases.0 c.requires.indices) (omega (arith, size, c.requires.last))
+    (noted_deeper _ _ _ _ _ _ rest z _
+    _ _ _ _ _
+    (subst (AreIndices c.args.levels) c.in-Some.ensures.cases.0 c.requires.indices)
+    (omega (arith, ap length c.in-Some.ensures.cases.0, c.requires.last))
     (omega (arith, l, c.requires.small)) refl
     c.first_at.ensures (c.note_all.ensures i l)
     d.span_every (at_every (λ k low. IsNoted next.of_every.now (FitsKey k low (rest ++ z ∷ [])) (get_or c.note_all.new.noted i None)

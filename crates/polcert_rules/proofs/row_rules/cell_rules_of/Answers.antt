@@ -11,10 +11,9 @@ pub first_at-requires-2-clause-from : goal.first_at-requires-2-clause-from
 first_at-requires-2-clause-from c r among = ((c.rules_from-both.ensures.kept r).0 among).1
 
 pub returns-clause-newest : goal.returns-clause-newest
-returns-clause-newest c = λ e z el zl x n.
-    subst (λ (w : Option ℕ). IsNewest c.args.rules.now (FitsKey 2 c.args.low (e ∷ z ∷ [])) (max_option w x))
+returns-clause-newest c = λ e z el zl x n. subst (λ w. IsNewest c.args.rules.now (FitsKey 2 c.args.low (e ∷ z ∷ [])) (max_option w x))
     (sym (c.max_option.ensures ∙ ap (max_option c.first_at-3.result) c.max_option-here.ensures))
-    (named_cells c.args.rules.now c.rules_from-open.result.now c.rules_from-both.result.now c.rules_from-named.result.now c.args.low e z
-    c.first_at-3.result c.first_at.result c.first_at-2.result x zl
+    (named_cells _ _ _ _ _ e z
+    _ _ _ x zl
     c.rules_from-open.ensures.kept c.rules_from-both.ensures.kept c.rules_from-named.ensures.kept
     (c.none_below.ensures c.if-not-none_below.false) c.first_at-3.ensures c.first_at.ensures c.first_at-2.ensures n)

@@ -9,13 +9,9 @@ pub note_each-requires-clause-from : goal.note_each-requires-clause-from
 note_each-requires-clause-from c = λ r among. ((c.rules_between.ensures.kept r).0 among).1
 
 pub note_each-requires-clause-to : goal.note_each-requires-clause-to
-note_each-requires-clause-to c = λ r among.
-    let below = ((c.rules_between.ensures.kept r).0 among).2 in
-    omega (arith, below, c.note_all.auto.noted)
+note_each-requires-clause-to c = λ r among. omega (arith, ((c.rules_between.ensures.kept r).0 among).2, c.note_all.auto.noted)
 
 pub returns : goal.returns
-returns c = λ i l.
-    noted_last c.args.rules.now c.rules_from.result.now c.rules_between.result.now c.args.low c.args.first (length c.note_all.new.noted) i
-    (c.args.low + 2 + c.args.first) c.first_at.result _ _ _ (omega (arith, l, c.note_all.auto.noted)) (omega arith)
+returns c = λ i l. noted_last _ _ _ _ _ _ i _ _ _ _ _ (omega (arith, l, c.note_all.auto.noted)) (omega arith)
     c.rules_from.ensures.kept c.first_at.ensures (c.note_all.ensures i l) c.rules_between.ensures.kept
     (c.note_each.ensures i (omega (arith, l, c.note_all.auto.noted)))

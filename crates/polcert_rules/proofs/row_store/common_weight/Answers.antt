@@ -31,9 +31,8 @@ returns-then-weight-others-clause-exceptions c =
     let n = c.args.bodies.shape.columns in
     let xs = c.args.newer.now in
     record {
-      small = subst (λ k. k ≤ one * n) (c.in-Some.ensures 0 0)
-          (whole_small c.args.bodies.shape c.args.bodies.entries.now c.args.row.now.whole 0 0 c.requires.within c.requires.whole);
+      small = subst (λ k. k ≤ one * n) (c.in-Some.ensures 0 0) (whole_small _ _ _ 0 0 c.requires.within c.requires.whole);
       rise = c.requires.rise;
-      proper = excepted_scale c.in-Some.weight n (one * n) xs c.requires.rise
+      proper = excepted_scale _ n _ xs c.requires.rise
           (ap (λ k. c.in-Some.weight * (n - length xs) + k) (sym c.row_sum.ensures) ∙ c.if-weight-others.true);
     }

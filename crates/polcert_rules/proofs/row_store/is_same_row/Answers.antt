@@ -15,6 +15,6 @@ returns-then-columns-other_columns c t =
     ap stored_cells arm.is-0
     ∙ ap (λ k. filled_cells (excepted_weight k arm.exceptions.now) arm.columns) c.if-weight-other_weight.true
     ∙ ap (filled_cells (excepted_weight arm.other_weight arm.exceptions.now)) c.if-columns-other_columns.true
-    ∙ ap (λ (xs : List Cell). filled_cells (excepted_weight arm.other_weight xs) arm.other_columns)
+    ∙ ap (λ xs. filled_cells (excepted_weight arm.other_weight xs) arm.other_columns)
     ((slice_eq-Decides (λ a b. search rules) _ _ _ c.eq-then-columns-other_columns.ensures).0 t)
     ∙ sym (ap stored_cells arm.is-1)

@@ -6,15 +6,15 @@ use Rattle.polcert_rules.proofs.Indexes.BuiltLaws.{line_none, line_more}
 use Rattle.polcert_rules.proofs.rows.action_rows.Goals as goal
 
 pub loop-state-init : goal.loop-state-init
-loop-state-init c = (line_none c.args.given c.args.action _ _ (search rules), c.requires.kept, λ n row e. e)
+loop-state-init c = (line_none _ _ _ _ (search rules), c.requires.kept, λ n row e. e)
 
 pub of-requires-clause-split : goal.of-requires-clause-split
 of-requires-clause-split c = (c.args.given.bodies.entries.now, c.args.given.index.now, c.requires.given.split)
 
 pub row_number-requires-clause-near : goal.row_number-requires-clause-near
 row_number-requires-clause-near c = (
-  subst (λ (xs : List ℕ). All (λ n. n < length c.loop-state.store.rows) xs) (sym c.as_slice.ensures.value) c.loop-state.invariant.0.within,
-  numbers_stay c.args.before.now _ _ c.loop-state.invariant.2 c.requires.before,
+  subst (λ xs. All (λ n. n < length c.loop-state.store.rows) xs) (sym c.as_slice.ensures.value) c.loop-state.invariant.0.within,
+  numbers_stay _ _ _ c.loop-state.invariant.2 c.requires.before,
 )
 
 pub row_number-requires-clause-row : goal.row_number-requires-clause-row
@@ -22,31 +22,28 @@ row_number-requires-clause-row c =
     let g = c.requires.given in (
       c.args.given.table,
       c.args.action,
-      row_numbers g.preamble c.args.given.table c.args.given.bodies.shape c.args.given.bodies.entries.now c.args.given.index.now
-          c.args.given.split.now c.args.action c.loop-state.state c.newest_whole-whole.result c.in_ok-row.row
-          g.weighted g.shape g.sound g.index g.split c.newest_whole-whole.ensures c.in_ok-row.ensures,
+      row_numbers _ _ _ _ _ _ _ _ _ _ g.weighted g.shape g.sound g.index g.split c.newest_whole-whole.ensures c.in_ok-row.ensures,
     )
 
 pub is_proper-requires : goal.is_proper-requires
 is_proper-requires c =
     let g = c.requires.given in
-    let row = row_numbers g.preamble c.args.given.table c.args.given.bodies.shape c.args.given.bodies.entries.now c.args.given.index.now
-    c.args.given.split.now c.args.action c.loop-state.state c.newest_whole-whole.result c.in_ok-row.row
+    let row = row_numbers _ _ _ _ _
+    _ _ _ _ _
     g.weighted g.shape g.sound g.index g.split c.newest_whole-whole.ensures c.in_ok-row.ensures in
-    record { number = row_within c.args.given.bodies.shape.columns _ _ _ (c.in_ok-number.ensures.row c.args.given.table c.args.action row) }
+    record { number = row_within _ _ _ _ (c.in_ok-number.ensures.row c.args.given.table c.args.action row) }
 
 pub loop-state-preserved : goal.loop-state-preserved
 loop-state-preserved c =
     let g = c.requires.given in
-    let row = row_numbers g.preamble c.args.given.table c.args.given.bodies.shape c.args.given.bodies.entries.now c.args.given.index.now
-    c.args.given.split.now c.args.action c.loop-state.state c.newest_whole-whole.result c.in_ok-row.row
+    let row = row_numbers _ _ _ _ _
+    _ _ _ _ _
     g.weighted g.shape g.sound g.index g.split c.newest_whole-whole.ensures c.in_ok-row.ensures in
-    let here = c.in_ok-number.ensures.row c.args.given.table c.args.action row in
-    let scale = (c.is_proper.ensures c.args.given.bodies.shape.columns c.args.given.bodies.entries.now _ c.in_ok-number.ensures.kept here).0
-    (search rules) in (
-      line_more c.args.given c.args.action c.loop-state.state c.in_ok-number.number _ _ _ _ c.loop-state.invariant.0
-          c.in_ok-number.ensures.stays here scale
-          (subst (λ (n : ℕ). c.extend_from_slice.new.self.items ≡ c.loop-state.numbers.items ++ n ∷ [])
+    let here = c.in_ok-number.ensures.row c.args.given.table c.args.action row in (
+      line_more _ _ _ _ _ _ _ _ c.loop-state.invariant.0
+          c.in_ok-number.ensures.stays here ((c.is_proper.ensures c.args.given.bodies.shape.columns c.args.given.bodies.entries.now _
+          c.in_ok-number.ensures.kept here).0 (search rules))
+          (subst (λ n. c.extend_from_slice.new.self.items ≡ c.loop-state.numbers.items ++ n ∷ [])
           c.in_ok-short.ensures c.in_ok-extend_from_slice.ensures.items),
       c.in_ok-number.ensures.kept,
       λ n r e. c.in_ok-number.ensures.stays n r (c.loop-state.invariant.2 n r e),
@@ -55,16 +52,16 @@ loop-state-preserved c =
 pub returns-then-not-is_proper-clause-rows : goal.returns-then-not-is_proper-clause-rows
 returns-then-not-is_proper-clause-rows c =
     let g = c.requires.given in
-    let row = row_numbers g.preamble c.args.given.table c.args.given.bodies.shape c.args.given.bodies.entries.now c.args.given.index.now
-    c.args.given.split.now c.args.action c.loop-state.state c.newest_whole-whole.result c.in_ok-row.row
+    let row = row_numbers _ _ _ _ _
+    _ _ _ _ _
     g.weighted g.shape g.sound g.index g.split c.newest_whole-whole.ensures c.in_ok-row.ensures in
     let here = c.in_ok-number.ensures.row c.args.given.table c.args.action row in
-    let scale = c.is_proper.ensures c.args.given.bodies.shape.columns c.args.given.bodies.entries.now _ c.in_ok-number.ensures.kept here in
     record {
       table_is = refl;
       action_is = refl;
       state = c.loop-state-test.true;
-      wrong = λ p. let t = scale.1 p in search rules;
+      wrong = λ p. let t = (c.is_proper.ensures c.args.given.bodies.shape.columns c.args.given.bodies.entries.now _
+          c.in_ok-number.ensures.kept here).1 p in search rules;
       before = c.loop-state.invariant.0.proper;
     }
 

@@ -6,18 +6,14 @@ use Rattle.polcert_rules.proofs.rows.cell_weight.Goals as goal
 
 pub returns-then-cell-column : goal.returns-then-cell-column
 returns-then-cell-column c =
-    let found : slice_get (from c.args.column c.args.cells.now) 0 ≡ Some c.in-Some.cell.now =
-    ap (λ (ys : List Cell). slice_get ys 0) (sym c.cells_from.ensures) ∙ sym c.in-Some.ensures.value in
-    at_here c.requires.0 c.args.column c.args.cells.now c.requires.1 c.in-Some.cell.now found c.if-cell-column.true
+    at_here c.requires.0 _ _ c.requires.1 _ (ap (λ (ys : List Cell). slice_get ys 0) (sym c.cells_from.ensures)
+    ∙ sym c.in-Some.ensures.value) c.if-cell-column.true
 
 pub returns-else-cell-column : goal.returns-else-cell-column
 returns-else-cell-column c =
-    let found : slice_get (from c.args.column c.args.cells.now) 0 ≡ Some c.in-Some.cell.now =
-    ap (λ (ys : List Cell). slice_get ys 0) (sym c.cells_from.ensures) ∙ sym c.in-Some.ensures.value in
-    at_there c.requires.0 c.args.column c.args.cells.now c.requires.1 c.in-Some.cell.now found c.if-cell-column.false
+    at_there c.requires.0 _ _ c.requires.1 _ (ap (λ (ys : List Cell). slice_get ys 0) (sym c.cells_from.ensures)
+    ∙ sym c.in-Some.ensures.value) c.if-cell-column.false
 
 pub returns-in-None : goal.returns-in-None
 returns-in-None c =
-    let found : slice_get (from c.args.column c.args.cells.now) 0 ≡ None =
-    ap (λ (ys : List Cell). slice_get ys 0) (sym c.cells_from.ensures) ∙ sym c.in-None.ensures.value in
-    at_none c.requires.0 c.args.column c.args.cells.now c.requires.1 found
+    at_none c.requires.0 _ _ c.requires.1 (ap (λ (ys : List Cell). slice_get ys 0) (sym c.cells_from.ensures) ∙ sym c.in-None.ensures.value)

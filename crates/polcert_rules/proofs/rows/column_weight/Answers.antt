@@ -6,5 +6,4 @@ pub overflow_mul-result : goal.overflow_mul-result
 overflow_mul-result c =
     let a : c.args.number ≤ 4_294_967_295 = let r = c.ranges.number in omega arith in
     let b : c.args.columns ≤ 4_294_967_295 = let r = c.ranges.columns in omega arith in
-    let most : c.args.number * c.args.columns ≤ 4_294_967_295 * 4_294_967_295 = mul-le-mul {n₂ = 4_294_967_295} {m₂ = 4_294_967_295} a b in
-    omega (arith, most)
+    omega (arith, mul-le-mul {n₂ = 4_294_967_295} {m₂ = 4_294_967_295} a b)

@@ -10,10 +10,9 @@ loop-column-preserved c =
     let xs = c.args.exceptions.now in
     let f = excepted_weight c.args.weight xs in
     let old = c.loop-column.cells.items in
-    let here = c.excepted_weight-here.ensures (rising 0 c.args.columns xs c.requires.rise) in
+    let here = c.excepted_weight-here.ensures (rising 0 _ xs c.requires.rise) in
     elim c.if-here-gt0.branch [
-      | then-here-gt0+in_ok-push w ↦
-          ap (λ v. v.items) w.cells-is ∙ w.in_ok-push.ensures.items
+      | then-here-gt0+in_ok-push w ↦ ap (λ v. v.items) w.cells-is ∙ w.in_ok-push.ensures.items
           ∙ with_weight f k _ old c.loop-column.invariant here w.if-here-gt0.true
       | else-here-gt0 w ↦ ap (λ v. v.items) w.cells-is ∙ without_weight f k _ old c.loop-column.invariant here w.if-here-gt0.false
     ]

@@ -11,22 +11,18 @@ newest_of_table-requires-clause-rising c = subst IsRising (sym c.as_slice-wholes
 pub newest_of_table-requires-clause-indices : goal.newest_of_table-requires-clause-indices
 newest_of_table-requires-clause-indices c =
     let g = c.requires.given in
-    let within = sound_within g.preamble c.args.given.table c.args.given.bodies.shape c.args.given.bodies.entries.now g.weighted g.shape
+    let within = sound_within _ _ _ _ g.weighted g.shape
     g.sound in
-    let actions = within.actions.1 in
-    let states = within.states.1 in
-    let la = c.requires.action in
-    let ls = c.requires.state in
-    (omega (arith, actions, la), (omega (arith, states, ls), (omega arith, tt)))
+    (omega (arith, within.actions.1, c.requires.action), (omega (arith, within.states.1, c.requires.state), (omega arith, tt)))
 
 pub returns-then-is_empty : goal.returns-then-is_empty
 returns-then-is_empty c =
     let none : length c.as_slice-wholes.result.now ≡ 0 = grind (arith, nat_tests, c.is_empty.ensures, c.if-is_empty.true) in
-    newest_whole c.args.given.index.now c.as_slice-wholes.result.now (table_key c.args.given.table) (table_digit c.args.given.table)
-    c.args.action c.args.state None refl (c.as_slice-wholes.ensures.value ∙ c.requires.given.split.wholes)
+    newest_whole _ _ _ _
+    _ _ None refl (c.as_slice-wholes.ensures.value ∙ c.requires.given.split.wholes)
     (λ r among f. absurd (omega (arith, among.1, none)))
 
 pub returns : goal.returns
 returns c =
-    newest_whole c.args.given.index.now c.as_slice-wholes.result.now (table_key c.args.given.table) (table_digit c.args.given.table)
-    c.args.action c.args.state _ refl (c.as_slice-wholes.ensures.value ∙ c.requires.given.split.wholes) c.newest_of_table.ensures
+    newest_whole _ _ _ _
+    _ _ _ refl (c.as_slice-wholes.ensures.value ∙ c.requires.given.split.wholes) c.newest_of_table.ensures

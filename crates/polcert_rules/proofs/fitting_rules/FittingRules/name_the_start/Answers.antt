@@ -7,6 +7,5 @@ true_of : (b : Bool) → IsFalse (not b) → b ≡ true
 true_of b h = grind arith
 
 pub returns : goal.returns
-returns c = λ unseen rules a s are.
-    starts_unnamed rules a s c.args.self.now are (sym c.if-is_some.false ∙ c.is_some.ensures) c.is_empty.result c.is_empty-2.result
-    c.is_empty.ensures c.if-not-is_empty.false c.is_empty-2.ensures (true_of c.is_empty-2.result unseen)
+returns c = λ unseen rules a s are. starts_unnamed _ a s _ are (sym c.if-is_some.false ∙ c.is_some.ensures) _ _
+    c.is_empty.ensures c.if-not-is_empty.false c.is_empty-2.ensures (true_of _ unseen)

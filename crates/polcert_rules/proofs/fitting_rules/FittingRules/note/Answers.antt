@@ -3,10 +3,7 @@ use Rattle.polcert_rules.proofs.Indexes.FittingLaws.{noted_of_parts}
 use Rattle.polcert_rules.proofs.fitting_rules.FittingRules.note.Goals as goal
 
 pub returns : goal.returns
-returns c rules a s are = λ i l.
-    noted_of_parts rules a s c.args.self.now are (c.args.end ∷ (c.args.first + i) ∷ []) (get_or c.args.noted.now i None)
-    (get_or c.note_all.new.noted i None) (get_or c.note.new.noted i None) (get_or c.note-2.new.noted i None)
-    (get_or c.note-3.new.noted i None) (get_or c.note-4.new.noted i None)
+returns c rules a s are = λ i l. noted_of_parts _ a s _ are _ _ _ _ _ _ _
     (c.requires.end, (omega (arith, l, c.requires.small), tt)) (c.note_all.ensures i l)
     (c.note.ensures i (omega (arith, l, c.note_all.auto.noted)))
     (c.note-2.ensures i (omega (arith, l, c.note_all.auto.noted, c.note.auto.noted)))

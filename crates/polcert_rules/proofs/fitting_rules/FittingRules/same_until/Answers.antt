@@ -4,6 +4,6 @@ use Rattle.polcert_rules.proofs.fitting_rules.FittingRules.same_until.Goals as g
 
 pub returns : goal.returns
 returns c rules a s are =
-    ends_of_parts rules a s c.args.self.now are c.args.end c.min.result c.same_until.result c.same_until-2.result c.same_until-3.result
-    c.same_until-4.result (omega arith) (omega arith) (omega arith) (omega arith) c.same_until.ensures c.same_until-2.ensures
+    ends_of_parts _ a s _ are _ _ _ _ _
+    _ (omega arith) (omega arith) (omega arith) (omega arith) c.same_until.ensures c.same_until-2.ensures
     c.same_until-3.ensures c.same_until-4.ensures

@@ -6,13 +6,12 @@ use Rattle.polcert_rules.proofs.index.Index.newest.Goals as goal
 
 pub returns-clause-number : goal.returns-clause-number
 returns-clause-number c entries index =
-    let newest = subst (λ (rules : List Rule). IsNewest rules (FitsKey most_places (table_key c.args.table) c.args.indices.now)
-    c.newest_of_table.result) (c.as_slice.ensures.value ∙ c.self.view_is) c.newest_of_table.ensures in
-    last_number entries c.args.self.now c.args.table c.args.indices.now _ index c.requires newest
+    last_number _ _ _ _ _ index c.requires (subst (λ (rules : List Rule). IsNewest rules
+    (FitsKey most_places (table_key c.args.table) c.args.indices.now) c.newest_of_table.result)
+    (c.as_slice.ensures.value ∙ c.self.view_is) c.newest_of_table.ensures)
 
 pub returns-clause-last : goal.returns-clause-last
 returns-clause-last c entries index =
-    let newest = subst (λ (rules : List Rule). IsNewest rules (FitsKey most_places (table_key c.args.table) c.args.indices.now)
-    c.newest_of_table.result) (c.as_slice.ensures.value ∙ c.self.view_is) c.newest_of_table.ensures in
-    last_is entries c.args.table c.args.indices.now _ (last_number entries c.args.self.now c.args.table c.args.indices.now _ index
-    c.requires newest)
+    last_is _ _ _ _ (last_number _ _ _ _ _ index
+    c.requires (subst (λ (rules : List Rule). IsNewest rules (FitsKey most_places (table_key c.args.table) c.args.indices.now)
+    c.newest_of_table.result) (c.as_slice.ensures.value ∙ c.self.view_is) c.newest_of_table.ensures))

@@ -10,5 +10,5 @@ invariant_of-result c = let s = c.sort_newest.ensures in subst IsRising (sym s.i
 pub returns : goal.returns
 returns c =
     let s = c.sort_newest.ensures in
-    let moved = subst (λ (xs : List Rule). IsPermutation xs s.sorted) c.in_ok-rules.ensures s.permutation in
-    subst (IsIndexOf c.args.table c.args.entries.now) (sym s.is) (is_index c.args.table c.args.entries.now _ c.requires moved)
+    subst (IsIndexOf c.args.table c.args.entries.now) (sym s.is)
+    (is_index _ _ _ c.requires (subst (λ (xs : List Rule). IsPermutation xs s.sorted) c.in_ok-rules.ensures s.permutation))

@@ -5,6 +5,6 @@ use Rattle.polcert_rules.proofs.reward_bodies.RewardBodies.of.Goals as goal
 
 pub returns : goal.returns
 returns c =
-    subst (λ (numbers : List ℤ). AreBodiesOf c.args.costs c.args.entries numbers c.into_rewards-bodies.result.0)
+    subst (λ numbers. AreBodiesOf c.args.costs c.args.entries numbers c.into_rewards-bodies.result.0)
     (sym (c.in_ok-numbers.ensures ∙ ap (map (worth c.args.costs)) c.into_rewards-bodies.ensures.rewards))
-    (bodies_are c.args.costs c.args.entries c.into_rewards-bodies.result.0 c.into_rewards-bodies.ensures.bodies)
+    (bodies_are _ _ _ c.into_rewards-bodies.ensures.bodies)

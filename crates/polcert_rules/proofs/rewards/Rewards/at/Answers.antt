@@ -7,10 +7,8 @@ use Rattle.polcert_rules.proofs.rewards.Rewards.at.Goals as goal
 pub returns : goal.returns
 returns c p entries are =
     let cell = c.args.action ∷ c.args.start ∷ c.args.end ∷ c.args.observation ∷ [] in
-    let within : AreWithin (map count_of (dimensions p Reward)) cell = search rules in
-    let small : AreIndices most_places cell = search rules in
-    let newest = subst (λ (rewards : RewardRules). IsNewest rewards.rules (FitsKey most_places (table_key Reward) cell) c.newest.result)
-    c.self.view_is (c.newest.ensures _ _ _ c.fitting-rules.ensures) in
     let fits : FitsSigned w64 c.reward_of_body.result = search rules in
-    to_z-of_z w64 c.reward_of_body.result fits
-    ∙ c.reward_of_body.ensures p entries are within (c.body_of-body.ensures cell p entries small are newest)
+    to_z-of_z w64 _ fits
+    ∙ c.reward_of_body.ensures p _ are (search rules) (c.body_of-body.ensures cell p _ (search rules) are
+    (subst (λ (rewards : RewardRules). IsNewest rewards.rules (FitsKey most_places (table_key Reward) cell) c.newest.result)
+    c.self.view_is (c.newest.ensures _ _ _ c.fitting-rules.ensures)))

@@ -3,4 +3,4 @@ use Rattle.polcert_rules.proofs.Common.{get_or-replicate}
 use Rattle.polcert_rules.proofs.rewards.Rewards.fill.Goals as goal
 
 pub fill_noted-requires-clause-nothing : goal.fill_noted-requires-clause-nothing
-fill_noted-requires-clause-nothing c = λ i l. get_or-replicate 64 i None None l
+fill_noted-requires-clause-nothing c = λ i. get_or-replicate 64 i None None

@@ -15,14 +15,12 @@ loop-i-preserved c =
     let list = c.args.list in
     let x : RewardCell = record {
       observation = at.end * c.self.inside.shape.observations + at.observation;
-      reward =
-          to_z w64 (of_z w64 c.single_or_given-reward.result);
+      reward = to_z w64 (of_z w64 c.single_or_given-reward.result);
     } in
-    let get = slice_get-get_or list.named.now i (record { key = 0; number = 0 }) c.loop-i-test.true in
+    let get = slice_get-get_or _ i _ c.loop-i-test.true in
     let shape : c.args.self.now.shape.observations ≡ c.self.inside.shape.observations = search rules in
-    let small : AreIndices most_places (a ∷ s ∷ at.end ∷ at.observation ∷ []) = search rules in
     let fits : FitsSigned w64 c.single_or_given-reward.result = search rules in
-    cells_more c.args.self.now a s list i c.loop-i.next c.loop-i.cells x _ c.loop-i.invariant
+    cells_more _ a s list i _ _ x _ c.loop-i.invariant
     (omega (arith, c.loop-i-test.true, c.if-cells-list.false, c.loop-i.auto.cells)) (omega (arith, c.if-number-next.false)) get
     (record {
       end = at.end;
@@ -32,10 +30,8 @@ loop-i-preserved c =
       within = search rules;
       names = c.in-Some.ensures.names;
       alone = λ e z l f. c.in-Some.ensures.alone e z (omega (arith, l, shape)) f;
-      earns = λ newest p entries are.
-          let within : AreWithin (map count_of (dimensions p Reward)) (a ∷ s ∷ at.end ∷ at.observation ∷ []) = search rules in
-          sym (to_z-of_z w64 c.single_or_given-reward.result fits ∙ c.single_or_given-reward.ensures p entries are within
-          (c.body_of-covering.ensures (a ∷ s ∷ at.end ∷ at.observation ∷ []) p entries small are
-          (subst (IsNewest c.args.self.now.rules (FitsKey most_places (table_key Reward) (a ∷ s ∷ at.end ∷ at.observation ∷ [])))
+      earns = λ newest p entries are. sym (to_z-of_z w64 _ fits ∙ c.single_or_given-reward.ensures p _ are (search rules)
+          (c.body_of-covering.ensures (a ∷ s ∷ at.end ∷ at.observation ∷ []) p _ (search rules) are
+          (subst (IsNewest c.args.self.now.rules (FitsKey _ _ (a ∷ s ∷ at.end ∷ at.observation ∷ [])))
           (sym c.max_option.ensures) newest)));
     })

@@ -8,13 +8,13 @@ loop-done-preserved c = record {
   within = omega (arith, c.min-size.ensures, c.loop-done.invariant.within);
   filled = λ p entries are. filled_part
       (λ i h. h ≡ reward p entries (c.args.at.action ∷ c.args.at.start ∷ c.args.at.end ∷ (c.args.first + i) ∷ []))
-      c.loop-done.done c.min-size.result _ c.loop-done.rewards c.fill_noted.new.rewards (pos 0) (omega arith) (omega arith)
-      (c.loop-done.invariant.filled p entries are)
+      _ _ _ _ _ _ (omega arith) (omega arith)
+      (c.loop-done.invariant.filled p _ are)
       (λ i l.
       let place : c.args.first + c.loop-done.done + i ≡ c.args.first + (c.loop-done.done + i) = omega arith in
       subst (λ z. get_or c.fill_noted.new.rewards i (pos 0)
-      ≡ reward p entries (c.args.at.action ∷ c.args.at.start ∷ c.args.at.end ∷ z ∷ [])) place (c.fill_noted.ensures p entries are i l));
+      ≡ reward p entries (c.args.at.action ∷ c.args.at.start ∷ c.args.at.end ∷ z ∷ [])) place (c.fill_noted.ensures p _ are i l));
 }
 
 pub fill_noted-requires-clause-nothing : goal.fill_noted-requires-clause-nothing
-fill_noted-requires-clause-nothing c = λ i l. get_or-replicate 1001 i None None l
+fill_noted-requires-clause-nothing c = λ i. get_or-replicate 1001 i None None

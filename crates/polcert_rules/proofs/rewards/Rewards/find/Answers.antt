@@ -10,7 +10,7 @@ use Rattle.polcert_rules.proofs.rewards.Rewards.find.Goals as goal
 
 pub fill_named-requires-clause-newest : goal.fill_named-requires-clause-newest
 fill_named-requires-clause-newest c =
-    subst (λ (rewards : RewardRules). AreNewestAt rewards.rules (record { action = c.args.action; start = c.args.start; end = c.args.end })
+    subst (λ rewards. AreNewestAt rewards.rules (record { action = c.args.action; start = c.args.start; end = c.args.end })
     c.note_named.new.list) c.self.view_is
     (λ z l. noted_first _ _ _ _ (c.new-list.ensures z)
     (c.note_named.ensures c.if-not-note_named.false _ _ _ c.fitting-rules.ensures z l))

@@ -66,6 +66,5 @@ returns-clause-common c p entries are common is =
     })
 
 pub returns-clause-rising : goal.returns-clause-rising
-returns-clause-rising c = λ common is.
-    subst (λ (x : CommonReward). AreOrdered x c.fill_cells.new.cells) (same_Some _ _ is)
+returns-clause-rising c = λ common is. subst (λ x. AreOrdered x c.fill_cells.new.cells) (same_Some _ _ is)
     (c.fill_cells.ensures.cells c.if-not-fill_cells.false).1.rising

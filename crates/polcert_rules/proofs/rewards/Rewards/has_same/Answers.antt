@@ -5,8 +5,7 @@ use Rattle.polcert_rules.proofs.rewards.Rewards.has_same.Goals as goal
 
 pub returns : goal.returns
 returns c unseen p entries are end observation l m =
-    let here = subst (λ (rewards : RewardRules). NoneNames rewards c.args.action c.args.start) c.self.view_is
-    (c.if-names_start.ensures refl) in
-    let there = subst (λ (rewards : RewardRules). NoneNames rewards c.args.action c.args.other) c.self.view_is
-    (c.names_start-2.ensures (false_of c.names_start-2.result unseen)) in
-    same_rewards p entries c.args.self.now are c.args.action c.args.start c.args.other end observation here there (search rules)
+    let there = subst (λ rewards. NoneNames rewards c.args.action c.args.other) c.self.view_is
+    (c.names_start-2.ensures (false_of _ unseen)) in
+    same_rewards p _ _ are _ _ _ end _ (subst (λ (rewards : RewardRules). NoneNames rewards c.args.action c.args.start) c.self.view_is
+    (c.if-names_start.ensures refl)) there (search rules)

@@ -7,14 +7,12 @@ pub invariant_of-result : goal.invariant_of-result
 invariant_of-result c = record {
   shape = c.requires.shape;
   rising = subst IsRising (sym c.in_ok-rules.ensures) c.into_rules-rules.ensures.rising;
-  table = λ r among. of_rewards c.args.entries c.args.index c.requires.index r
-      (subst (λ (rules : List Rule). Contains rules r) (c.in_ok-rules.ensures ∙ c.into_rules-rules.ensures.is) among);
+  table = λ r among. of_rewards _ _ c.requires.index r
+      (subst (λ rules. Contains rules r) (c.in_ok-rules.ensures ∙ c.into_rules-rules.ensures.is) among);
 }
 
 pub returns-clause-rewards : goal.returns-clause-rewards
 returns-clause-rewards c = λ p shape costs keyed sound.
-    let bodies = c.in_ok-bodies.bodies.bodies in
-    let numbers = c.in_ok-bodies.bodies.numbers.items in
-    let index = subst (IsIndexOf Reward c.args.entries) (sym (c.in_ok-rules.ensures ∙ c.into_rules-rules.ensures.is)) c.requires.index in
-    are_rewards p c.args.entries c.args.shape c.args.costs c.in_ok-rules.rules.rules.items bodies numbers shape costs keyed sound index
+    are_rewards p _ _ _ _ c.in_ok-bodies.bodies.bodies c.in_ok-bodies.bodies.numbers.items shape costs keyed sound
+    (subst (IsIndexOf Reward c.args.entries) (sym (c.in_ok-rules.ensures ∙ c.into_rules-rules.ensures.is)) c.requires.index)
     c.in_ok-bodies.ensures

@@ -8,21 +8,21 @@ use Rattle.polcert_rules.proofs.rewards.Rewards.reward_of_body.Goals as goal
 pub cell_in-cell-requires-clause-small : goal.cell_in-cell-requires-clause-small
 cell_in-cell-requires-clause-small c =
     subst (All (λ i. i < key_base)) (sym c.indices_after-left.ensures)
-    (All-drop (λ i. i < key_base) c.in-Some.body.places c.args.indices.now (small_indices most_places c.args.indices.now c.requires))
+    (All-drop (λ i. i < key_base) _ _ (small_indices _ _ c.requires))
 
 pub returns-in-Some : goal.returns-in-Some
 returns-in-Some c p entries are within last =
     let fits : FitsSigned w64 c.number_at.result = search rules in
-    let cell = c.cell_in-cell.ensures ∙ ap (cell_in c.self.inside.shape.states c.self.inside.shape.observations)
+    let cell = c.cell_in-cell.ensures ∙ ap (cell_in _ _)
     c.indices_after-left.ensures in
     let b = c.in-Some.body in
-    let read = c.number_at.ensures ∙ ap (λ k. get_or c.self.inside.bodies.numbers.items (b.start + k) (pos 0)) cell in
-    let of_self = read ∙ ap (λ (rewards : RewardRules). get_or rewards.numbers
+    let of_self = (c.number_at.ensures ∙ ap (λ k. get_or c.self.inside.bodies.numbers.items (b.start + k) (pos 0)) cell)
+    ∙ ap (λ rewards. get_or rewards.numbers
     (b.start + cell_in rewards.shape.states rewards.shape.observations (drop b.places c.args.indices.now)) (pos 0)) c.self.view_is in
-    to_z-of_z w64 c.number_at.result fits ∙ of_self
-    ∙ body_reward p entries c.args.self.now c.args.indices.now b are (all_open p c.args.indices.now within)
+    to_z-of_z w64 _ fits ∙ of_self
+    ∙ body_reward p _ _ _ b are (all_open p _ within)
     (subst (IsLastBody p.costs entries c.args.self.now.numbers c.args.indices.now) c.in-Some.is last)
 
 pub returns-in-None : goal.returns-in-None
-returns-in-None c p entries are within last = no_reward p entries c.args.indices.now
+returns-in-None c p entries are within last = no_reward p _ _
     (subst (IsLastBody p.costs entries c.args.self.now.numbers c.args.indices.now) c.in-None.is last)

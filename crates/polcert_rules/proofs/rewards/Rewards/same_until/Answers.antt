@@ -10,11 +10,8 @@ returns-then-is_some c p entries are f z from to fl zl = absurd (omega (arith, f
 
 pub returns : goal.returns
 returns c p entries are f z from to fl zl =
-    let none = subst (λ (rewards : RewardRules). NoneIsWide rewards c.args.action c.args.start) c.self.view_is
-    (none_whole _ (FitsKey most_places (table_key Reward) (c.args.action ∷ c.args.start ∷ [])) c.newest.result
+    let none = subst (λ rewards. NoneIsWide rewards c.args.action c.args.start) c.self.view_is
+    (none_whole _ _ _
     (c.newest.ensures _ _ _ c.fitting-rules.ensures) (sym c.if-is_some.false ∙ c.is_some.ensures)) in
-    let ends = subst (λ (rewards : RewardRules). AreEndRules rewards.rules c.args.action c.args.start c.args.end c.same_until.result)
-    c.self.view_is (c.same_until.ensures _ _ _ c.fitting-rules.ensures) in
-    let small : AreIndices most_places (c.args.action ∷ c.args.start ∷ c.args.end ∷ z ∷ []) = search rules in
-    let small_f : AreIndices most_places (c.args.action ∷ c.args.start ∷ f ∷ z ∷ []) = search rules in
-    same_ends p entries c.args.self.now are c.args.action c.args.start c.args.end c.same_until.result f z none ends from to small small_f
+    same_ends p _ _ are _ _ _ _ f z none (subst (λ (rewards : RewardRules). AreEndRules rewards.rules c.args.action c.args.start c.args.end
+    c.same_until.result) c.self.view_is (c.same_until.ensures _ _ _ c.fitting-rules.ensures)) from to (search rules) (search rules)

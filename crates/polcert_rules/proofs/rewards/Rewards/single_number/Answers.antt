@@ -7,15 +7,13 @@ use Rattle.polcert_rules.proofs.rewards.Rewards.single_number.Goals as goal
 
 pub returns-in-None : goal.returns-in-None
 returns-in-None c p entries are h is cell within last =
-    sym (no_reward p entries cell (subst (IsLastBody p.costs entries c.args.self.now.numbers cell) c.in-None.is last)) ∙ same_Some _ _ is
+    sym (no_reward p _ cell (subst (IsLastBody p.costs entries c.args.self.now.numbers cell) c.in-None.is last)) ∙ same_Some _ _ is
 
 pub returns-then-is_single : goal.returns-then-is_single
 returns-then-is_single c p entries are h is cell within last =
     let fits : FitsSigned w64 c.number_at.result = search rules in
-    let read = c.number_at.ensures ∙ ap (λ (rewards : RewardRules). get_or rewards.numbers (c.in-Some.body.start + 0) (pos 0))
-    c.self.view_is in
-    let single = subst (λ (rewards : RewardRules). IsSingle rewards.shape.observations c.in-Some.body.places) c.self.view_is
-    (c.if-is_single.ensures refl) in
-    single_reward p entries c.args.self.now cell c.in-Some.body are within single
+    single_reward p _ _ cell _ are within (subst (λ (rewards : RewardRules). IsSingle rewards.shape.observations c.in-Some.body.places)
+    c.self.view_is (c.if-is_single.ensures refl))
     (subst (IsLastBody p.costs entries c.args.self.now.numbers cell) c.in-Some.is last)
-    ∙ sym (to_z-of_z w64 c.number_at.result fits ∙ read) ∙ same_Some _ _ is
+    ∙ sym (to_z-of_z w64 _ fits ∙ (c.number_at.ensures ∙ ap
+    (λ (rewards : RewardRules). get_or rewards.numbers (c.in-Some.body.start + 0) (pos 0)) c.self.view_is)) ∙ same_Some _ _ is

@@ -28,9 +28,7 @@ returns c entries rules columns index parted covering =
     c.in_ok-cells.ensures.rising newest each c.row_zeros-zeros.ensures.ordered of_zeros
 
 pub cells-requires-clause-exact : goal.cells-requires-clause-exact
-cells-requires-clause-exact c t r among = let split = c.requires.split.2 in split.exact t r ((split.each r).0 (inr among))
+cells-requires-clause-exact c t r among = c.requires.split.2.exact t r ((c.requires.split.2.each r).0 (inr among))
 
 pub cells-requires-clause-low : goal.cells-requires-clause-low
-cells-requires-clause-low c =
-    let low = ap (λ x. c.table_digit.result * x) c.span.ensures in
-    (c.table_digit.result, few c.args.table c.table_digit.result c.table_digit.ensures, low)
+cells-requires-clause-low c = (c.table_digit.result, few _ _ c.table_digit.ensures, ap (λ x. c.table_digit.result * x) c.span.ensures)

@@ -20,10 +20,10 @@ returns-then-lacks_keys-clause-newest c =
     let of_only : AreCellRules c.rules_after.result.now
     (λ e z. FitsKey 2 (c.args.low + (c.args.start + 2) * c.span-step.result) (e ∷ z ∷ []))
     c.in_ok-of_only.of_only = search rules in
-    cells_of_only all 2 c.args.low c.args.start c.span-step.result (λ e z. e ∷ z ∷ []) c.in_ok-of_only.of_only c.span-step.ensures
+    cells_of_only all 2 _ _ _ (λ e z. e ∷ z ∷ []) c.in_ok-of_only.of_only c.span-step.ensures
     (λ e z el zl. (el, (zl, tt)))
     (c.lacks_keys.ensures c.if-lacks_keys.true)
-    (cells_of_span all c.rules_after.result.now (c.args.low + (c.args.start + 2) * c.span-step.result) c.in_ok-of_only.of_only
+    (cells_of_span all _ _ c.in_ok-of_only.of_only
     c.rules_after.ensures.kept of_only)
 
 pub returns-clause-newest : goal.returns-clause-newest
@@ -32,7 +32,7 @@ returns-clause-newest c =
     let low = c.args.low in
     let s = c.args.start in
     let step = c.span-step.result in
-    let here = newest_here all c.rules_after-2.result.now low (key_base ^ 2) c.first_at-here.result (omega arith)
+    let here = newest_here all _ low _ _ (omega arith)
     c.rules_after-2.ensures.kept c.first_at-here.ensures in
     let of_every : AreCellRules c.rules_after-3.result.now (λ e z. FitsKey 2 (low + step) (e ∷ z ∷ [])) c.in_ok-of_every.of_every =
     search rules in
@@ -40,10 +40,10 @@ returns-clause-newest c =
     search rules in
     let joined : AreJoined c.in_ok-of_every.of_every c.in_ok-of_only.of_only c.in_ok-join.field-0 = search rules in
     let both = joined_cells all (λ e z. FitsKey 2 (low + step) (e ∷ z ∷ [])) (λ e z. FitsKey 2 (low + (s + 2) * step) (e ∷ z ∷ [])) _ _ _
-    (cells_of_span all c.rules_after-3.result.now (low + step) c.in_ok-of_every.of_every c.rules_after-3.ensures.kept of_every)
-    (cells_of_span all c.rules_after.result.now (low + (s + 2) * step) c.in_ok-of_only.of_only c.rules_after.ensures.kept of_only) joined in
+    (cells_of_span all _ _ c.in_ok-of_every.of_every c.rules_after-3.ensures.kept of_every)
+    (cells_of_span all _ _ c.in_ok-of_only.of_only c.rules_after.ensures.kept of_only) joined in
     let more = whole_cells all (λ e z k. FitsKey 2 (low + step) (e ∷ z ∷ []) k ⊎ FitsKey 2 (low + (s + 2) * step) (e ∷ z ∷ []) k) low
-    c.first_at-here.result c.in_ok-join.field-0 c.with_whole.result both here
+    _ _ _ both here
     c.with_whole.ensures.whole c.with_whole.ensures.low c.with_whole.ensures.named in
     placed_cells all 2 low s (λ e z. e ∷ z ∷ []) c.with_whole.result
     (subst (λ (t : ℕ). AreCellRules all (λ e z k. (k ≡ low)

@@ -11,11 +11,11 @@ returns c =
     let a = c.args.action in
     let s = c.args.start in
     record {
-      whole = subst (IsNewest rules (FitsKey most_places (table_key Reward) (a ∷ [])))
+      whole = subst (IsNewest rules (FitsKey _ _ _))
           (sym (c.max_option-2.ensures ∙ ap (max_option c.rule_at-here.result) c.max_option.ensures))
-          (newest_of_three rules 3 low a [] c.rule_at-here.result c.rule_at-of_each.result c.rule_at-of_this.result c.rule_at-here.ensures
-          (newest_end rules 3 (low + key_base ^ 3) c.rule_at-of_each.result c.rule_at-of_each.ensures)
-          (newest_end rules 3 (low + (a + 2) * key_base ^ 3) c.rule_at-of_this.result c.rule_at-of_this.ensures));
+          (newest_of_three _ 3 low a [] c.rule_at-here.result _ _ c.rule_at-here.ensures
+          (newest_end _ 3 _ _ c.rule_at-of_each.ensures)
+          (newest_end _ 3 _ _ c.rule_at-of_this.ensures));
       of_all = c.part.ensures;
       of_state = c.part-2.ensures;
       of_action = c.part-3.ensures;

@@ -6,5 +6,4 @@ pub first_at-requires-clause-from : goal.first_at-requires-clause-from
 first_at-requires-clause-from c r among = ((c.rules_after.ensures.kept r).0 among).1
 
 pub returns : goal.returns
-returns c = newest_here c.args.self.now.rules.items c.rules_after.result.now c.args.key (16_384 ^ 2) c.first_at.result (omega arith)
-    c.rules_after.ensures.kept c.first_at.ensures
+returns c = newest_here _ _ _ _ _ (omega arith) c.rules_after.ensures.kept c.first_at.ensures

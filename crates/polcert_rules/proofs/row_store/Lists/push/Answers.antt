@@ -8,8 +8,7 @@ returns g c =
     let xs = c.self.inside.items.items in
     let ys = c.args.more.now in
     let p : Part = record { start = c.len-start.result; end = c.len-end.result } in
-    let start : c.len-start.result ≡ length xs = search rules in
     let end : c.len-end.result ≡ length xs + length ys = search rules in
     ap (λ zs. map (part_in zs) c.push.new.self.items) c.in_ok-extend_from_slice.ensures.items
-    ∙ ap (map (part_in (xs ++ ys))) c.in_ok-push.ensures.items
-    ∙ one_more_list xs ys c.self.inside.parts.items p c.self.invariant start end ∙ ap (λ ls. ls ++ ys ∷ []) c.self.view_is
+    ∙ ap (map (part_in _)) c.in_ok-push.ensures.items
+    ∙ one_more_list xs ys _ p c.self.invariant (search rules) end ∙ ap (λ ls. ls ++ ys ∷ []) c.self.view_is

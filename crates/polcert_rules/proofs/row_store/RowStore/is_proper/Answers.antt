@@ -8,7 +8,6 @@ pub returns-in-Some : goal.returns-in-Some
 returns-in-Some c columns entries weights all row =
     let found = c.in-Some.ensures.lookup.3 in
     let proper = c.in-Some.proper.now in
-    let at : slice_get c.deref.result.now c.args.number ≡ Some proper = slice_get-get_or c.deref.result.now c.args.number proper found.0
-    ∙ ap Some (sym (found.1 proper)) in
-    proper_is columns entries c.args.self.now weights c.args.number proper all row
-    (ap (λ (bs : List Bool). slice_get bs c.args.number) (sym c.deref.ensures.value) ∙ at)
+    proper_is _ _ _ _ _ _ all row
+    (ap (λ bs. slice_get bs c.args.number) (sym c.deref.ensures.value)
+    ∙ (slice_get-get_or c.deref.result.now c.args.number proper found.0 ∙ ap Some (sym (found.1 proper))))

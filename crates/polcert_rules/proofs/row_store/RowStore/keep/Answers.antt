@@ -20,5 +20,4 @@ returns-clause-kept c = record {
 }
 
 pub push_cells-requires : goal.push_cells-requires
-push_cells-requires c = let most = sparse_few c.args.columns c.args.cells.now c.requires.sparse in let few = c.requires.few in
-    omega (arith, most, few)
+push_cells-requires c = omega (arith, sparse_few c.args.columns c.args.cells.now c.requires.sparse, c.requires.few)

@@ -8,18 +8,17 @@ use Rattle.polcert_rules.proofs.row_store.RowStore.keep_even.Goals as goal
 pub returns-clause-kept : goal.returns-clause-kept
 returns-clause-kept c =
     let n = c.args.columns in
-    let f = excepted_weight c.args.weight c.args.exceptions.now in
     record {
       rows_are = c.in_ok-push_even.ensures;
       tests_are =
           c.in_ok-push.ensures.items
-          ∙ ap (λ (t : Bool). c.args.self.now.proper.items ++ t ∷ [])
-          (sym (ap (λ k. k == one * n) (filled_sum f n ∙ c.requires.exceptions.proper) ∙ equal_numbers (one * n)));
+          ∙ ap (λ t. c.args.self.now.proper.items ++ t ∷ [])
+          (sym (ap (λ k. k == one * n) (filled_sum (excepted_weight c.args.weight c.args.exceptions.now) n ∙ c.requires.exceptions.proper)
+          ∙ equal_numbers _));
       common_are = refl;
     }
 
 pub push_even-requires-clause-few : goal.push_even-requires-clause-few
 push_even-requires-clause-few c =
-    let count = few 0 c.args.columns c.args.exceptions.now c.requires.exceptions.rise (omega arith) in
-    let most = c.requires.few in
-    omega (arith, count, most)
+    let count = few 0 _ _ c.requires.exceptions.rise (omega arith) in
+    omega (arith, count, c.requires.few)

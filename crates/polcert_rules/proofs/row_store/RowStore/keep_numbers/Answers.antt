@@ -6,20 +6,15 @@ use Rattle.polcert_rules.proofs.row_store.RowStore.keep_numbers.Goals as goal
 
 pub numbers_sum-requires : goal.numbers_sum-requires
 numbers_sum-requires c =
-    let most = sum_most c.args.numbers.now c.requires.small in
-    let few = c.requires.few in
-    omega (arith, most, few)
+    let most = sum_most _ c.requires.small in
+    omega (arith, most, c.requires.few)
 
 pub overflow_mul-numbers_sum : goal.overflow_mul-numbers_sum
 overflow_mul-numbers_sum c =
-    let few = c.requires.few in
-    let sum_is = c.numbers_sum.ensures in
-    let most = sum_most c.args.numbers.now c.requires.small in
-    let a : c.numbers_sum.result ≤ one * most_elements = omega (arith, most, few, sum_is) in
-    let b : length c.args.numbers.now ≤ most_elements = few in
-    let product : c.numbers_sum.result * length c.args.numbers.now ≤ one * most_elements * most_elements =
-    mul-le-mul {n₂ = one * most_elements} {m₂ = most_elements} a b in
-    omega (arith, product)
+    let most = sum_most _ c.requires.small in
+    let a : c.numbers_sum.result ≤ one * most_elements = omega (arith, most, c.requires.few, c.numbers_sum.ensures) in
+    let b : length c.args.numbers.now ≤ most_elements = c.requires.few in
+    omega (arith, mul-le-mul {n₂ = one * most_elements} {m₂ = most_elements} a b)
 
 pub returns-clause-kept : goal.returns-clause-kept
 returns-clause-kept c =

@@ -9,7 +9,7 @@ use Rattle.polcert_rules.proofs.Indexes.KeptLaws.{whole_small, full_row}
 use Rattle.polcert_rules.proofs.row_store.RowStore.keep_whole.Goals as goal
 
 pub keep_numbers-requires-clause-few : goal.keep_numbers-requires-clause-few
-keep_numbers-requires-clause-few c = let size = c.in-Some.ensures.size in let few = c.requires.within.columns.1 in omega (arith, size, few)
+keep_numbers-requires-clause-few c = omega (arith, c.in-Some.ensures.size, c.requires.within.columns.1)
 
 pub keep_numbers-requires-clause-small : goal.keep_numbers-requires-clause-small
 keep_numbers-requires-clause-small c = c.in-Some.ensures.small
@@ -20,24 +20,23 @@ returns-in-Some-clause-kept c =
     let ns = c.in-Some.line.now in
     record {
       cells = scaled_cells (length ns) 0 ns;
-      row = full_row n (given_at n c.args.bodies.entries.now c.args.whole c.args.state) ns c.in-Some.ensures;
-      kept = subst (λ (m : ℕ). IsAfter m (scaled_cells (length ns) 0 ns) c.args.self.now c.keep_numbers.new.self) c.in-Some.ensures.size
+      row = full_row n _ ns c.in-Some.ensures;
+      kept = subst (λ m. IsAfter m (scaled_cells (length ns) 0 ns) c.args.self.now c.keep_numbers.new.self) c.in-Some.ensures.size
           c.in_ok-keep_numbers.ensures.kept;
     }
 
 pub keep_even-requires-clause-exceptions : goal.keep_even-requires-clause-exceptions
 keep_even-requires-clause-exceptions c =
     let n = c.args.bodies.shape.columns in
-    let some = c.requires.within.columns.0 in
-    record { small = omega (arith, some); rise = tt; proper = sum_even one n ∙ mul_comm n one }
+    record { small = omega (arith, c.requires.within.columns.0); rise = tt; proper = sum_even one n ∙ mul_comm n one }
 
 pub returns-then-is_uniform-clause-kept : goal.returns-then-is_uniform-clause-kept
 returns-then-is_uniform-clause-kept c =
     let n = c.args.bodies.shape.columns in
     record {
       cells = filled_cells (excepted_weight one []) n;
-      row = row_same n (λ i. one) (given_at n c.args.bodies.entries.now c.args.whole c.args.state) (filled_cells (excepted_weight one []) n)
-          (λ i l. sym (c.is_uniform.ensures c.if-is_uniform.true c.args.state i)) (filled_row (excepted_weight one []) n);
+      row = row_same n (λ i. one) _ _ (λ i l. sym (c.is_uniform.ensures c.if-is_uniform.true c.args.state i))
+          (filled_row (excepted_weight one []) n);
       kept = c.in_ok-keep_even.ensures.kept;
     }
 
@@ -47,15 +46,15 @@ keep-requires-clause-sparse c = subst (IsSparse c.args.bodies.shape.columns) (sy
 pub keep-requires-clause-small : goal.keep-requires-clause-small
 keep-requires-clause-small c i l =
     subst (λ k. k ≤ one * c.args.bodies.shape.columns) (sym
-    (ap (λ (xs : List Cell). weight_at xs i) c.as_slice.ensures.value ∙ c.in_ok-cells.ensures.each i l))
-    (whole_small c.args.bodies.shape c.args.bodies.entries.now c.args.whole c.args.state i c.requires.within c.requires.whole)
+    (ap (λ xs. weight_at xs i) c.as_slice.ensures.value ∙ c.in_ok-cells.ensures.each i l))
+    (whole_small _ _ _ _ i c.requires.within c.requires.whole)
 
 pub returns-clause-kept : goal.returns-clause-kept
 returns-clause-kept c =
     let n = c.args.bodies.shape.columns in
     record {
       cells = c.as_slice.result.now;
-      row = subst (λ (xs : List Cell). IsRow n (given_at n c.args.bodies.entries.now c.args.whole c.args.state) xs)
+      row = subst (λ xs. IsRow n (given_at n c.args.bodies.entries.now c.args.whole c.args.state) xs)
           (sym c.as_slice.ensures.value) c.in_ok-cells.ensures;
       kept = c.in_ok-keep.ensures.kept;
     }

@@ -11,23 +11,22 @@ cell_weight-requires c = (c.args.self.now.columns, rw c.in-Sparse.is at c.stored
 pub returns-in-Sparse : goal.returns-in-Sparse
 returns-in-Sparse c =
     c.cell_weight.ensures ∙ ap (λ r. weight_at (stored_cells r) c.args.column) (sym c.in-Sparse.is)
-    ∙ ap (λ (ys : List Cell). weight_at ys c.args.column) c.stored_row.ensures.row
+    ∙ ap (λ ys. weight_at ys c.args.column) c.stored_row.ensures.row
 
 pub returns-in-Full : goal.returns-in-Full
 returns-in-Full c =
     c.full_weight.ensures ∙ sym (scaled_weight c.in-Full.columns c.in-Full.numbers.now c.args.column)
     ∙ ap (λ r. weight_at (stored_cells r) c.args.column) (sym c.in-Full.is)
-    ∙ ap (λ (ys : List Cell). weight_at ys c.args.column) c.stored_row.ensures.row
+    ∙ ap (λ ys. weight_at ys c.args.column) c.stored_row.ensures.row
 
 pub returns-then-column-columns : goal.returns-then-column-columns
 returns-then-column-columns c =
     let xs = c.in-Even.exceptions.now in
-    c.excepted_weight.ensures (rising 0 c.in-Even.columns xs c.in-Even.ensures.stored.rise)
-    ∙ sym ((filled_row (excepted_weight c.in-Even.weight xs) c.in-Even.columns).each c.args.column c.if-column-columns.true)
-    ∙ ap (λ (ys : List Cell). weight_at ys c.args.column) c.in-Even.ensures.row
+    c.excepted_weight.ensures (rising 0 _ xs c.in-Even.ensures.stored.rise)
+    ∙ sym ((filled_row _ _).each c.args.column c.if-column-columns.true)
+    ∙ ap (λ ys. weight_at ys c.args.column) c.in-Even.ensures.row
 
 pub returns-else-column-columns : goal.returns-else-column-columns
 returns-else-column-columns c =
-    let f = excepted_weight c.in-Even.weight c.in-Even.exceptions.now in
-    sym (filled_beyond f c.in-Even.columns c.args.column c.if-column-columns.false)
-    ∙ ap (λ (ys : List Cell). weight_at ys c.args.column) c.in-Even.ensures.row
+    sym (filled_beyond (excepted_weight c.in-Even.weight c.in-Even.exceptions.now) _ _ c.if-column-columns.false)
+    ∙ ap (λ ys. weight_at ys c.args.column) c.in-Even.ensures.row

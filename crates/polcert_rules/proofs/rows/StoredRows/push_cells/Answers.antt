@@ -10,17 +10,15 @@ returns c =
     let ns = c.self.inside.numbers.items in
     let more = c.args.more.now in
     let p : RowLocation = record { start = c.in_ok-start.start; count = length more; form = Sparse } in
-    let start : c.in_ok-start.start ≡ length xs = search rules in
     ap (λ zs. map (row_in zs ns) c.push.new.self.items) c.in_ok-extend_from_slice.ensures.items
     ∙ ap (map (row_in (xs ++ more) ns)) c.in_ok-push.ensures.items
-    ∙ push_sparse xs more ns c.self.inside.parts.items p c.self.invariant refl start refl ∙ ap (λ rs. rs ++ more ∷ []) c.self.view_is
+    ∙ push_sparse xs more ns _ p c.self.invariant refl (search rules) refl ∙ ap (λ rs. rs ++ more ∷ []) c.self.view_is
 
 pub invariant_of-self-2 : goal.invariant_of-self-2
 invariant_of-self-2 c =
     let xs = c.self.inside.cells.items in
     let ns = c.self.inside.numbers.items in
     let more = c.args.more.now in
-    let start : c.in_ok-start.start ≡ length xs = search rules in
-    subst (λ (zs : List Cell). All (IsHeld zs ns) c.push.new.self.items) (sym c.in_ok-extend_from_slice.ensures.items)
-    (subst (λ (ps : List RowLocation). All (IsHeld (xs ++ more) ns) ps) (sym c.in_ok-push.ensures.items)
-    (held_sparse xs more ns c.self.inside.parts.items c.self.invariant c.in_ok-start.start (length more) start refl))
+    subst (λ zs. All (IsHeld zs ns) c.push.new.self.items) (sym c.in_ok-extend_from_slice.ensures.items)
+    (subst (λ ps. All (IsHeld (xs ++ more) ns) ps) (sym c.in_ok-push.ensures.items)
+    (held_sparse xs more ns _ c.self.invariant _ _ (search rules) refl))

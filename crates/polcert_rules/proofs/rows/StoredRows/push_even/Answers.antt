@@ -14,12 +14,11 @@ invariant_of-self-2 c =
     let ns = c.self.inside.numbers.items in
     let first = cell_of c.args.columns c.args.weight in
     let more = first ∷ c.args.exceptions.now in
-    let start : c.in_ok-start.start ≡ length xs = search rules in
-    let longer : c.extend_from_slice.new.self.items ≡ xs ++ more = c.in_ok-extend_from_slice.ensures.items
-    ∙ ap (λ zs. zs ++ c.args.exceptions.now) c.in_ok-push.ensures.items ∙ append_assoc xs (first ∷ []) c.args.exceptions.now in
-    subst (λ (zs : List Cell). All (IsHeld zs ns) c.push-2.new.self.items) (sym longer)
-    (subst (λ (ps : List RowLocation). All (IsHeld (xs ++ more) ns) ps) (sym c.in_ok-push-2.ensures.items)
-    (held_even xs more ns c.self.inside.parts.items c.self.invariant c.in_ok-start.start (length c.args.exceptions.now + 1) start
+    subst (λ zs. All (IsHeld zs ns) c.push-2.new.self.items)
+    (sym (c.in_ok-extend_from_slice.ensures.items ∙ ap (λ zs. zs ++ c.args.exceptions.now) c.in_ok-push.ensures.items
+    ∙ append_assoc xs (first ∷ []) c.args.exceptions.now))
+    (subst (λ ps. All (IsHeld (xs ++ more) ns) ps) (sym c.in_ok-push-2.ensures.items)
+    (held_even xs more ns _ c.self.invariant _ _ (search rules)
     (add-one (length c.args.exceptions.now)) c.requires.exceptions))
 
 pub returns : goal.returns
@@ -31,8 +30,8 @@ returns c =
     let p : RowLocation = record { start = c.in_ok-start.start; count = length c.args.exceptions.now + 1; form = Even } in
     let start : c.in_ok-start.start ≡ length xs = search rules in
     let longer : c.extend_from_slice.new.self.items ≡ xs ++ more = c.in_ok-extend_from_slice.ensures.items
-    ∙ ap (λ zs. zs ++ c.args.exceptions.now) c.in_ok-push.ensures.items ∙ append_assoc xs (first ∷ []) c.args.exceptions.now in
+    ∙ ap (λ zs. zs ++ c.args.exceptions.now) c.in_ok-push.ensures.items ∙ append_assoc xs _ _ in
     ap (λ zs. map (row_in zs ns) c.push-2.new.self.items) longer
     ∙ ap (map (row_in (xs ++ more) ns)) c.in_ok-push-2.ensures.items
-    ∙ push_even xs more ns c.self.inside.parts.items p c.self.invariant refl start (add-one (length c.args.exceptions.now))
+    ∙ push_even xs more ns _ p c.self.invariant refl start (add-one (length c.args.exceptions.now))
     ∙ ap (λ rs. rs ++ filled_cells (excepted_weight c.args.weight c.args.exceptions.now) c.args.columns ∷ []) c.self.view_is

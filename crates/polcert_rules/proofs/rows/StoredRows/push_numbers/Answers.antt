@@ -9,8 +9,7 @@ returns c =
     let ns = c.self.inside.numbers.items in
     let more = c.args.more.now in
     let p : RowLocation = record { start = c.in_ok-start.start; count = length more; form = Full } in
-    let start : c.in_ok-start.start ≡ length ns = search rules in
     ap (λ zs. map (row_in xs zs) c.push.new.self.items) c.in_ok-extend_from_slice.ensures.items
     ∙ ap (map (row_in xs (ns ++ more))) c.in_ok-push.ensures.items
-    ∙ push_full xs ns more c.self.inside.parts.items p c.self.invariant refl start refl
+    ∙ push_full xs ns more _ p c.self.invariant refl (search rules) refl
     ∙ ap (λ rs. rs ++ scaled_cells (length more) 0 more ∷ []) c.self.view_is

@@ -5,5 +5,5 @@ use Rattle.polcert_rules.proofs.zeros.SplitRules.of.Goals as goal
 pub returns-then-is_empty-clause-others : goal.returns-then-is_empty-clause-others
 returns-then-is_empty-clause-others c =
     let size : length c.in_ok-zeros.zeros.items ≡ c.in_ok-zeros.zeros.len = search rules in
-    no_zeros c.args.entries.now c.args.rules.now c.in_ok-zeros.zeros.items (ap (λ k. k == 0) size ∙ sym c.if-is_empty.ensures)
+    no_zeros _ _ _ (ap (λ k. k == 0) size ∙ sym c.if-is_empty.ensures)
     c.in_ok-zeros.ensures

@@ -5,4 +5,4 @@ pub first_at-requires-clause-from : goal.first_at-requires-clause-from
 first_at-requires-clause-from c r among = ((c.rules_from.ensures.kept r).0 among).1
 
 pub returns : goal.returns
-returns c = found_at c.args.self.now.rules.now c.rules_from.result.now _ c.first_at.result c.rules_from.ensures.kept c.first_at.ensures
+returns c = found_at _ _ _ _ c.rules_from.ensures.kept c.first_at.ensures
