@@ -35,85 +35,87 @@ one_least_lacking c n s m t z y e f h g = grind arith
 not_above : (x : ℤ) → x ≤ℤ pos 0 → pos 0 <ℤ x → ⊥
 not_above x l h = omega (arith, linear)
 
-short_above : (c : Controller) (n s : ℕ) (a : ℤ) → a ≡ short c n s → pos 0 <ℤ a → short c n s ≤ℤ pos 0 → ⊥
-short_above c n s a is above l = not_above (short c n s) l (subst (λ (x : ℤ). pos 0 <ℤ x) is above)
+module _ (c : Controller) where
+  -- ---- one verdict
 
--- ---- one verdict
+  short_first : (n s : ℕ) (a : ℤ) → IsVerdict c (Short n s a) → IsFirstFailing (PairPasses c) c.nodes c.cells.states n s
+  short_first n s a h = record {
+    node = h.0;
+    state = h.1;
+    fails =
+        λ p. not_above (short c n s) p.not_short (subst (λ (x : ℤ). pos 0 <ℤ x) h.4 h.5);
+    before = h.2;
+  }
 
-short_first : (c : Controller) (n s : ℕ) (a : ℤ) → IsVerdict c (Short n s a) → IsFirstFailing (PairPasses c) c.nodes c.cells.states n s
-short_first c n s a h = record { node = h.0; state = h.1; fails = λ p. short_above c n s a h.4 h.5 p.not_short; before = h.2 }
+  lack_first : (n s z : ℕ) → IsVerdict c (NoSuccessor n s z) → IsFirstFailing (PairPasses c) c.nodes c.cells.states n s
+  lack_first n s z h = record { node = h.0; state = h.1; fails = λ p. p.lacks_none z h.3.0 h.3.1; before = h.2 }
 
-lack_first : (c : Controller) (n s z : ℕ) → IsVerdict c (NoSuccessor n s z) → IsFirstFailing (PairPasses c) c.nodes c.cells.states n s
-lack_first c n s z h = record { node = h.0; state = h.1; fails = λ p. p.lacks_none z h.3.0 h.3.1; before = h.2 }
+  not_both : (n s m t z : ℕ) (a : ℤ) → IsVerdict c (Short n s a) → IsVerdict c (NoSuccessor m t z) → ⊥
+  not_both n s m t z a h g =
+      let same = one_first (PairPasses c) c.nodes c.cells.states n s m t (short_first n s a h) (lack_first m t z g) in
+      some_not_none c m t z g.3 (subst (λ k. IsLeastLacking c m k None) same.1
+      (subst (λ k. IsLeastLacking c k s None) same.0 h.3))
 
-not_both : (c : Controller) (n s m t z : ℕ) (a : ℤ) → IsVerdict c (Short n s a) → IsVerdict c (NoSuccessor m t z) → ⊥
-not_both c n s m t z a h g =
-    let same = one_first (PairPasses c) c.nodes c.cells.states n s m t (short_first c n s a h) (lack_first c m t z g) in
-    some_not_none c m t z g.3 (subst (λ (k : ℕ). IsLeastLacking c m k None) same.1
-    (subst (λ (k : ℕ). IsLeastLacking c k s None) same.0 h.3))
+  pub one_verdict : (x y : Verdict) → IsVerdict c x → IsVerdict c y → x ≡ y
+  one_verdict Yes Yes h g = refl
+  one_verdict Yes (Short n s a) h g = absurd ((short_first n s a g).fails (h n s g.0 g.1))
+  one_verdict Yes (NoSuccessor n s z) h g = absurd ((lack_first n s z g).fails (h n s g.0 g.1))
+  one_verdict (Short n s a) Yes h g = absurd ((short_first n s a h).fails (g n s h.0 h.1))
+  one_verdict (NoSuccessor n s z) Yes h g = absurd ((lack_first n s z h).fails (g n s h.0 h.1))
+  one_verdict (Short n s a) (NoSuccessor m t z) h g = absurd (not_both n s m t z a h g)
+  one_verdict (NoSuccessor m t z) (Short n s a) h g = absurd (not_both n s m t z a g h)
+  one_verdict (Short n s a) (Short m t b) h g = grind arith
+  one_verdict (NoSuccessor n s z) (NoSuccessor m t y) h g =
+      let same = one_first (PairPasses c) c.nodes c.cells.states n s m t (lack_first n s z h) (lack_first m t y g) in
+      rw (same.0, same.1, one_least_lacking c n s m t z y same.0 same.1 h.3 g.3) refl
 
-pub one_verdict : (c : Controller) (x y : Verdict) → IsVerdict c x → IsVerdict c y → x ≡ y
-one_verdict c Yes Yes h g = refl
-one_verdict c Yes (Short n s a) h g = absurd ((short_first c n s a g).fails (h n s g.0 g.1))
-one_verdict c Yes (NoSuccessor n s z) h g = absurd ((lack_first c n s z g).fails (h n s g.0 g.1))
-one_verdict c (Short n s a) Yes h g = absurd ((short_first c n s a h).fails (g n s h.0 h.1))
-one_verdict c (NoSuccessor n s z) Yes h g = absurd ((lack_first c n s z h).fails (g n s h.0 h.1))
-one_verdict c (Short n s a) (NoSuccessor m t z) h g = absurd (not_both c n s m t z a h g)
-one_verdict c (NoSuccessor m t z) (Short n s a) h g = absurd (not_both c n s m t z a g h)
-one_verdict c (Short n s a) (Short m t b) h g = grind arith
-one_verdict c (NoSuccessor n s z) (NoSuccessor m t y) h g =
-    let same = one_first (PairPasses c) c.nodes c.cells.states n s m t (lack_first c n s z h) (lack_first c m t y g) in
-    rw (same.0, same.1, one_least_lacking c n s m t z y same.0 same.1 h.3 g.3) refl
+  -- ---- one outcome of lowering
 
--- ---- one outcome of lowering
+  one_least : (a b : ℕ) → IsLeast c a → IsLeast c b → a ≡ b
+  one_least a b h g = one_least_number (λ d. Passes (lowered_by c d)) a b h.0 h.1 g.0 g.1
 
-one_least : (c : Controller) (a b : ℕ) → IsLeast c a → IsLeast c b → a ≡ b
-one_least c a b h g = one_least_number (λ d. Passes (lowered_by c d)) a b h.0 h.1 g.0 g.1
+  -- `Can` says by which constants all values stay in range
+  pub one_move : (Can : ℕ → Type 0) (x y : ℤ) → IsLeastMove c Can x → IsLeastMove c Can y → x ≡ y
+  one_move Can x y h g = h.1 ∙ ap pos (one_least h.0 g.0 h.2 g.2) ∙ sym g.1
 
--- `Can` says by which constants all values stay in range
-pub one_move : (c : Controller) (Can : ℕ → Type 0) (x y : ℤ) → IsLeastMove c Can x → IsLeastMove c Can y → x ≡ y
-one_move c Can x y h g = h.1 ∙ ap pos (one_least c h.0 g.0 h.2 g.2) ∙ sym g.1
+  first_lack : (n s z : ℕ) → IsFirstLack c n s z
+      → IsFirstFailing (λ m t. IsLeastLacking c m t None) c.nodes c.cells.states n s
+  first_lack n s z h = record { node = h.0; state = h.1; fails = some_not_none c n s z h.2; before = h.3 }
 
-first_lack : (c : Controller) (n s z : ℕ) → IsFirstLack c n s z
-    → IsFirstFailing (λ m t. IsLeastLacking c m t None) c.nodes c.cells.states n s
-first_lack c n s z h = record { node = h.0; state = h.1; fails = some_not_none c n s z h.2; before = h.3 }
+  lack_and_none : (n s z : ℕ) → IsFirstLack c n s z
+      → ((m t : ℕ) → m < c.nodes → t < c.cells.states → IsLeastLacking c m t None) → ⊥
+  lack_and_none n s z h none = some_not_none c n s z h.2 (none n s h.0 h.1)
 
-lack_and_none : (c : Controller) (n s z : ℕ) → IsFirstLack c n s z
-    → ((m t : ℕ) → m < c.nodes → t < c.cells.states → IsLeastLacking c m t None) → ⊥
-lack_and_none c n s z h none = some_not_none c n s z h.2 (none n s h.0 h.1)
+  pub one_fault : (Can : ℕ → Type 0) (f g : LowerFault) → IsNotMended c Can f → IsNotMended c Can g → f ≡ g
+  one_fault Can (faults.NoSuccessor n s z) (faults.NoSuccessor m t y) h g =
+      let same = one_first (λ a b. IsLeastLacking c a b None) c.nodes c.cells.states n s m t (first_lack n s z h) (first_lack m t y g) in
+      rw (same.0, same.1, one_least_lacking c n s m t z y same.0 same.1 h.2 g.2) refl
+  one_fault Can (faults.NoSuccessor n s z) (faults.NoConstant m t a) h g = absurd (lack_and_none n s z h g.0)
+  one_fault Can (faults.NoSuccessor n s z) faults.OutOfRange h g = absurd (lack_and_none n s z h g.0)
+  one_fault Can (faults.NoConstant m t a) (faults.NoSuccessor n s z) h g = absurd (lack_and_none n s z g h.0)
+  one_fault Can (faults.NoConstant n s a) (faults.NoConstant m t b) h g = grind arith
+  one_fault Can (faults.NoConstant n s a) faults.OutOfRange h g = absurd (h.1 g.1.0 g.1.1.0)
+  one_fault Can faults.OutOfRange (faults.NoSuccessor n s z) h g = absurd (lack_and_none n s z g h.0)
+  one_fault Can faults.OutOfRange (faults.NoConstant n s a) h g = absurd (g.1 h.1.0 h.1.1.0)
+  one_fault Can faults.OutOfRange faults.OutOfRange h g = refl
+  one_fault Can faults.Memory f h g = absurd h
+  one_fault Can _ faults.Memory h g = absurd g
 
-pub one_fault : (c : Controller) (Can : ℕ → Type 0) (f g : LowerFault) → IsNotMended c Can f → IsNotMended c Can g → f ≡ g
-one_fault c Can (faults.NoSuccessor n s z) (faults.NoSuccessor m t y) h g =
-    let same = one_first (λ a b. IsLeastLacking c a b None) c.nodes c.cells.states n s m t (first_lack c n s z h) (first_lack c m t y g) in
-    rw (same.0, same.1, one_least_lacking c n s m t z y same.0 same.1 h.2 g.2) refl
-one_fault c Can (faults.NoSuccessor n s z) (faults.NoConstant m t a) h g = absurd (lack_and_none c n s z h g.0)
-one_fault c Can (faults.NoSuccessor n s z) faults.OutOfRange h g = absurd (lack_and_none c n s z h g.0)
-one_fault c Can (faults.NoConstant m t a) (faults.NoSuccessor n s z) h g = absurd (lack_and_none c n s z g h.0)
-one_fault c Can (faults.NoConstant n s a) (faults.NoConstant m t b) h g = grind arith
-one_fault c Can (faults.NoConstant n s a) faults.OutOfRange h g = absurd (h.1 g.1.0 g.1.1.0)
-one_fault c Can faults.OutOfRange (faults.NoSuccessor n s z) h g = absurd (lack_and_none c n s z g h.0)
-one_fault c Can faults.OutOfRange (faults.NoConstant n s a) h g = absurd (g.1 h.1.0 h.1.1.0)
-one_fault c Can faults.OutOfRange faults.OutOfRange h g = refl
-one_fault c Can faults.Memory f h g = absurd h
-one_fault c Can (faults.NoSuccessor n s z) faults.Memory h g = absurd g
-one_fault c Can (faults.NoConstant n s a) faults.Memory h g = absurd g
-one_fault c Can faults.OutOfRange faults.Memory h g = absurd g
+  pub move_or_fault : (Can : ℕ → Type 0) (x : ℤ) (f : LowerFault) → IsLeastMove c Can x → IsNotMended c Can f → ⊥
+  move_or_fault Can x (faults.NoSuccessor n s z) h g = (h.2.0 n s g.0 g.1).lacks_none z g.2.0 g.2.1
+  move_or_fault Can x (faults.NoConstant n s a) h g = g.1 h.0 h.2.0
+  move_or_fault Can x faults.OutOfRange h g = g.1.2 (subst (λ by. Can by) (one_least h.0 g.1.0 h.2 g.1.1) h.3)
+  move_or_fault Can x faults.Memory h g = g
 
-pub move_or_fault : (c : Controller) (Can : ℕ → Type 0) (x : ℤ) (f : LowerFault) → IsLeastMove c Can x → IsNotMended c Can f → ⊥
-move_or_fault c Can x (faults.NoSuccessor n s z) h g = (h.2.0 n s g.0 g.1).lacks_none z g.2.0 g.2.1
-move_or_fault c Can x (faults.NoConstant n s a) h g = g.1 h.0 h.2.0
-move_or_fault c Can x faults.OutOfRange h g = g.1.2 (subst (λ (by : ℕ). Can by) (one_least c h.0 g.1.0 h.2 g.1.1) h.3)
-move_or_fault c Can x faults.Memory h g = g
+  pub one_constant : (v : PolicyVectors) (x y : ℤ) → IsLeastConstant c v x → IsLeastConstant c v y → x ≡ y
+  one_constant v = one_move (CanLower v)
 
-pub one_constant : (c : Controller) (v : PolicyVectors) (x y : ℤ) → IsLeastConstant c v x → IsLeastConstant c v y → x ≡ y
-one_constant c v = one_move c (CanLower v)
+  pub one_reason : (v : PolicyVectors) (f g : LowerFault) → IsNotLowered c v f → IsNotLowered c v g → f ≡ g
+  one_reason v = one_fault (CanLower v)
 
-pub one_reason : (c : Controller) (v : PolicyVectors) (f g : LowerFault) → IsNotLowered c v f → IsNotLowered c v g → f ≡ g
-one_reason c v = one_fault c (CanLower v)
-
-pub not_lowered_has_no_constant : (c : Controller) (v : PolicyVectors) (x : ℤ) (f : LowerFault) → IsLeastConstant c v x → IsNotLowered c v f
-    → ⊥
-not_lowered_has_no_constant c v = move_or_fault c (CanLower v)
+  pub not_lowered_has_no_constant : (v : PolicyVectors) (x : ℤ) (f : LowerFault) → IsLeastConstant c v x → IsNotLowered c v f
+      → ⊥
+  not_lowered_has_no_constant v = move_or_fault (CanLower v)
 
 -- ---- one best node, and one worth
 
@@ -123,14 +125,16 @@ le_antisym x y h g = omega (arith, linear)
 pub one_best : (f : ℕ → ℤ) (count n m : ℕ) → IsFirstGreatest f count n → IsFirstGreatest f count m → n ≡ m
 one_best f count n m h g = grind (arith, linear)
 
-quotient_le : (sum : ℤ) (total : ℕ) (p q : ℤ) → IsFloorQuotient sum total p → IsFloorQuotient sum total q → p ≤ℤ q
-quotient_le sum total p q h g = omega (arith, linear, below_cancel total p (q +ℤ pos 1) (omega (arith, linear, h.0, g.1)))
+module _ (sum : ℤ) (total : ℕ) where
+  quotient_le : (p q : ℤ) → IsFloorQuotient sum total p → IsFloorQuotient sum total q → p ≤ℤ q
+  quotient_le p q h g = omega (arith, linear, below_cancel total p (q +ℤ pos 1) (omega (arith, linear, h.0, g.1)))
 
-pub one_quotient : (sum : ℤ) (total : ℕ) (p q : ℤ) → IsFloorQuotient sum total p → IsFloorQuotient sum total q → p ≡ q
-one_quotient sum total p q h g = le_antisym p q (quotient_le sum total p q h g) (quotient_le sum total q p g h)
+  pub one_quotient : (p q : ℤ) → IsFloorQuotient sum total p → IsFloorQuotient sum total q → p ≡ q
+  one_quotient p q h g = le_antisym p q (quotient_le p q h g) (quotient_le q p g h)
 
-pub one_best_node : (m : Meaning) (v : PolicyVectors) (n o : ℕ) → IsBestStart m v n → IsBestStart m v o → n ≡ o
-one_best_node m v n o h g = one_best (start_sum m v) v.nodes n o h g
+module _ (m : Meaning) (v : PolicyVectors) (n : ℕ) where
+  pub one_best_node : (o : ℕ) → IsBestStart m v n → IsBestStart m v o → n ≡ o
+  one_best_node o h g = one_best (start_sum m v) v.nodes n o h g
 
-pub one_worth : (m : Meaning) (v : PolicyVectors) (n : ℕ) (x y : ℤ) → IsStartWorth m v n x → IsStartWorth m v n y → x ≡ y
-one_worth m v n x y h g = one_quotient (start_sum m v n) (start_total m) x y h g
+  pub one_worth : (x y : ℤ) → IsStartWorth m v n x → IsStartWorth m v n y → x ≡ y
+  one_worth x y h g = one_quotient (start_sum m v n) (start_total m) x y h g

@@ -1,5 +1,6 @@
 -- What a check says of one table it says of every table with the same cells.
-use Rattle.std.proofs.Common.{◌≡◌, ℕ, ◌<◌, ℤ, Some, None, List, [], ◌∷◌, length, sym, refl, ◌∙◌, subst, arith}
+use Rattle.std.proofs.Common.{List}
+use Rattle.std.proofs.Common.{◌≡◌, ℕ, ◌<◌, ℤ, Some, None, [], ◌∷◌, length, sym, refl, ◌∙◌, subst, arith}
 use Rattle.polcert_check.proofs.Common.{All-contains, CellTable, PolicyGraph, IsProperGraph, nodes, PolicyVectors, LowerFault, Verdict}
 use Rattle.polcert_check.proofs.Common.{Controller, controller_of, runs, Promise, RewardPromise, HasCutRun, MeetsHorizon, IsRunInRange}
 use Rattle.polcert_check.proofs.Common.{Passes, PassesBefore, IsLeastLacking, IsVerdict, lowered_by, IsLeast, CanLower, NoneLacks}

@@ -1,8 +1,9 @@
 -- A controller over other cells that agree in range: each step, each run and each sum is the same.
+use Rattle.std.proofs.Common.{◌-◌}
 use Rattle.polcert_check.proofs.Common.{range_with_len, CellTable, Controller, one, sum_over, step_weight, pairs, runs, is_cut, run_weight}
 use Rattle.polcert_check.proofs.Common.{rewards, reward_part, total, uncut, weights_sum, worth_sum, rewards_sum, Promise, RewardPromise}
 use Rattle.polcert_check.proofs.Common.{IsRunInRange, short, Lacks, PairPasses, Passes, IsClosed, HasSameCells}
-use Rattle.std.proofs.Common.{◌≡◌, ℕ, zero, suc, ◌-◌, ◌*◌, ◌^◌, ◌<◌, ℤ, pos, ◌*ℤ◌, IsTrue, not, cond, List, [], ◌∷◌, map, flat_map, get_or}
+use Rattle.std.proofs.Common.{◌≡◌, ℕ, zero, suc, ◌*◌, ◌^◌, ◌<◌, ℤ, pos, ◌*ℤ◌, IsTrue, not, cond, List, [], ◌∷◌, map, flat_map, get_or}
 use Rattle.std.proofs.Common.{Option, Some, None, sym, refl, ap, ◌∙◌, All, length, arith}
 use Rattle.polcert_check.proofs.Sums.SumLaws.{sum_below_same, sum_over_filter, sum_over_same_all}
 use Rattle.polcert_check.proofs.Horizons.Enumerated.{All-runs}
@@ -11,15 +12,16 @@ use Rattle.polcert_check.proofs.Horizons.Enumerated.{All-runs}
 abbrev pub with_cells : Controller → CellTable → Controller
 with_cells c y = record c { cells = record c.cells { t = y.t; o = y.o; r = y.r } }
 
--- ---- the same for any cells
-pub runs_same : (c : Controller) (y : CellTable) (k : ℕ) → runs (with_cells c y).cells k ≡ runs c.cells k
-runs_same c y zero = refl
-runs_same c y (suc k) = ap (λ (rs : List (List (ℕ × ℕ))). flat_map (λ q. map (λ run. q ∷ run) rs) (pairs c.cells)) (runs_same c y k)
+module _ (c : Controller) (y : CellTable) where
+  -- ---- the same for any cells
+  pub runs_same : (k : ℕ) → runs (with_cells c y).cells k ≡ runs c.cells k
+  runs_same zero = refl
+  runs_same (suc k) = ap (λ (rs : List (List (ℕ × ℕ))). flat_map (λ q. map (λ run. q ∷ run) rs) (pairs c.cells)) (runs_same k)
 
-pub is_cut_same : (c : Controller) (y : CellTable) (at : Option ℕ) (run : List (ℕ × ℕ)) → is_cut (with_cells c y) at run ≡ is_cut c at run
-is_cut_same c y None run = refl
-is_cut_same c y (Some n) [] = refl
-is_cut_same c y (Some n) (q ∷ run) = is_cut_same c y (c.next n q.1) run
+  pub is_cut_same : (at : Option ℕ) (run : List (ℕ × ℕ)) → is_cut (with_cells c y) at run ≡ is_cut c at run
+  is_cut_same None run = refl
+  is_cut_same (Some n) [] = refl
+  is_cut_same (Some n) (q ∷ run) = is_cut_same (c.next n q.1) run
 
 -- ---- the same for cells that agree
 module _ (c : Controller) (p : IsClosed c) (y : CellTable) (same : HasSameCells c.cells y) where

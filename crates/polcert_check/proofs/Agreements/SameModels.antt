@@ -27,19 +27,20 @@ module _ (m n : Meaning) (same : IsSame m n) where
   pub same_worth : (v : PolicyVectors) (node : ℕ) (worth : ℤ) → IsStartWorth m v node worth → IsStartWorth n v node worth
   same_worth v node worth is = grind arith
 
--- the promise from the start, for other cells and then for other shares
-start_worths_same : (m : Meaning) (c : Controller) (p : IsClosed c) (y : CellTable) (same : HasSameCells c.cells y) (k n : ℕ) → n < c.nodes
-    → total_below (λ s. pos (start_weight m s) *ℤ worth_sum (with_cells c y) k (Some n) s) c.cells.states
-    ≡ total_below (λ s. pos (start_weight m s) *ℤ worth_sum c k (Some n) s) c.cells.states
-start_worths_same m c p y same k n nl = grind (arith, sum_below_same, worth_sum_same)
+module _ (m : Meaning) (c : Controller) (p : IsClosed c) (y : CellTable) (same : HasSameCells c.cells y) where
+  -- the promise from the start, for other cells and then for other shares
+  start_worths_same : (k n : ℕ) → n < c.nodes
+      → total_below (λ s. pos (start_weight m s) *ℤ worth_sum (with_cells c y) k (Some n) s) c.cells.states
+      ≡ total_below (λ s. pos (start_weight m s) *ℤ worth_sum c k (Some n) s) c.cells.states
+  start_worths_same k n nl = grind (arith, sum_below_same, worth_sum_same)
 
-pub start_promise_with : (m : Meaning) (c : Controller) (p : IsClosed c) (y : CellTable) (same : HasSameCells c.cells y) (k n : ℕ)
-    (worth : ℤ) → n < c.nodes → StartPromise m c k n worth → StartPromise m (with_cells c y) k n worth
-start_promise_with m c p y same k n worth nl promise =
-    record {
-      cut_runs = λ s sl some. cut_runs_same c p y same k n s nl sl (promise.cut_runs s sl some);
-      uncut_runs = rw (start_worths_same m c p y same k n nl) promise.uncut_runs;
-    }
+  pub start_promise_with : (k n : ℕ)
+      (worth : ℤ) → n < c.nodes → StartPromise m c k n worth → StartPromise m (with_cells c y) k n worth
+  start_promise_with k n worth nl promise =
+      record {
+        cut_runs = λ s sl some. cut_runs_same c p y same k n s nl sl (promise.cut_runs s sl some);
+        uncut_runs = rw (start_worths_same k n nl) promise.uncut_runs;
+      }
 
 pub start_promise_of : (m n : Meaning) → m.start ≡ n.start → (c : Controller) (k node : ℕ) (worth : ℤ) → StartPromise m c k node worth
     → StartPromise n c k node worth

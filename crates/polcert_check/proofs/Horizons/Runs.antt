@@ -1,6 +1,6 @@
 -- Sums over the runs of k + 1 steps, split at the first step.
 use Rattle.std.proofs.Common.{◌≡◌, ℕ, suc, ◌-◌, ◌*◌, ◌^◌, ℤ, pos, ◌+ℤ◌, ◌*ℤ◌, not, List, ◌∷◌, map, get_or, Some, None, ap, ◌∙◌, arith}
-use Rattle.polcert_check.proofs.Common.{pow-zero, CellTable, total_below, sum_over, Controller, one, pairs, runs, is_cut, rewards}
+use Rattle.polcert_check.proofs.Common.{pow-zero, CellTable, total_below, sum_over, Controller, one, pairs, runs, is_cut}
 use Rattle.polcert_check.proofs.Common.{reward_part, total, uncut}
 use Rattle.std.proofs.Math.Nat.{pow-suc}
 use Rattle.polcert_check.proofs.Sums.Ring.{products, sums, *ℤ_assoc}
@@ -17,18 +17,19 @@ pub sum_over_runs : (t : CellTable) (k : ℕ) (f : List (ℕ × ℕ) → ℤ)
     → sum_over f (runs t (suc k)) ≡ total_below (λ e. total_below (λ z. sum_over (λ run. f ((e, z) ∷ run)) (runs t k)) t.observations)
     t.states
 sum_over_runs t k f =
-    sum_over_flat_map f (λ p. map (λ run. p ∷ run) (runs t k)) (pairs t)
-    ∙ sum_over_same _ (λ p. sum_over (λ run. f ((p.0, p.1) ∷ run)) (runs t k)) (pairs t) (λ p. sum_over_map f (λ run. p ∷ run) (runs t k))
-    ∙ sum_over_pairs t (λ e z. sum_over (λ run. f ((e, z) ∷ run)) (runs t k))
+    sum_over_flat_map f (λ p. map _ (runs t k)) (pairs t)
+    ∙ sum_over_same _ _ _ (λ p. sum_over_map f (λ run. p ∷ run) (runs t k))
+    ∙ sum_over_pairs t (λ e z. sum_over (λ run. f _) (runs t k))
 
--- a sum over the uncut runs of k + 1 steps from n
-pub sum_over_uncut : (c : Controller) (k n : ℕ) (f : List (ℕ × ℕ) → ℤ)
-    → sum_over f (uncut c (suc k) (Some n)) ≡ total_below
-    (λ e. total_below (λ z. sum_over (λ run. f ((e, z) ∷ run)) (uncut c k (c.next n z))) c.cells.observations) c.cells.states
-sum_over_uncut c k n f = grind (arith, sum_over_filter, sum_over_runs)
+module _ (c : Controller) (k : ℕ) where
+  -- a sum over the uncut runs of k + 1 steps from n
+  pub sum_over_uncut : (n : ℕ) (f : List (ℕ × ℕ) → ℤ)
+      → sum_over f (uncut c (suc k) (Some n)) ≡ total_below
+      (λ e. total_below (λ z. sum_over (λ run. f ((e, z) ∷ run)) (uncut c k (c.next n z))) c.cells.observations) c.cells.states
+  sum_over_uncut n f = grind (arith, sum_over_filter, sum_over_runs)
 
-pub uncut_none : (c : Controller) (k : ℕ) (f : List (ℕ × ℕ) → ℤ) → sum_over f (uncut c k None) ≡ pos 0
-uncut_none c k f = sum_over_filter f (λ run. not (is_cut c None run)) (runs c.cells k) ∙ sum_over_zero (runs c.cells k)
+  pub uncut_none : (f : List (ℕ × ℕ) → ℤ) → sum_over f (uncut c k None) ≡ pos 0
+  uncut_none f = sum_over_filter f (λ run. not (is_cut c None run)) (runs c.cells k) ∙ sum_over_zero (runs c.cells k)
 
 -- the reward part of a run, split at its first step
 pub scale_step : (g u i m : ℕ) → g ^ suc i * u ^ (suc m - suc i) ≡ g * (g ^ i * u ^ (m - i))
@@ -56,7 +57,7 @@ pub reward_part_cons : (c : Controller) (k n s e z : ℕ) (run : List (ℕ × �
 reward_part_cons c k n s e z run =
     cc (
       sum_over_below _ (suc k),
-      part_cons c.cells.discount k (c.cells.r (c.action n) s e z) (rewards c (c.next n z) e run),
+      part_cons _ k _ _,
       sum_over_below
           _ k,
     )
@@ -73,4 +74,4 @@ total_step g k r p v whole e = let power : g ^ suc k ≡ g * g ^ k = rw pow-suc 
 pub total_cons : (c : Controller) (k n s e z : ℕ) (run : List (ℕ × ℕ))
     → total c (suc k) (Some n) s ((e, z) ∷ run) ≡ pos (one ^ suc k) *ℤ c.cells.r (c.action n) s e z +ℤ pos c.cells.discount
     *ℤ total c k (c.next n z) e run
-total_cons c k n s e z run = total_step c.cells.discount k _ _ _ _ (reward_part_cons c k n s e z run)
+total_cons c k n s e z run = total_step _ k _ _ _ _ (reward_part_cons c k n s e z run)

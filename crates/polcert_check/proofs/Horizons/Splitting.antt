@@ -56,28 +56,27 @@ module _ (c : Controller) (n s : ℕ) (rewards : ℕ → ℕ → ℤ)
 
   counted_split : backing c n s ≡ pos one *ℤ earned c n s rewards +ℤ pos c.cells.discount *ℤ factored_value c n s
   counted_split =
-      sum_below_same _ (λ e. pos one *ℤ (pos (c.cells.t (c.action n) s e)
-      *ℤ total_below (λ z. pos (c.cells.o (c.action n) e z) *ℤ rewards e z) c.cells.observations) +ℤ pos c.cells.discount
-      *ℤ (pos (c.cells.t (c.action n) s e) *ℤ factored_value_at_end c n e)) c.cells.states (λ e el. row_split e el)
-      ∙ sum_split (pos one) (pos c.cells.discount) (λ e. pos (c.cells.t (c.action n) s e)
+      sum_below_same _ _ _ row_split
+      ∙ sum_split (pos one) (pos c.cells.discount) (λ e. pos (c.cells.t _ s e)
       *ℤ total_below (λ z. pos (c.cells.o (c.action n) e z) *ℤ rewards e z) c.cells.observations)
-      (λ e. pos (c.cells.t (c.action n) s e) *ℤ factored_value_at_end c n e) c.cells.states
+      (λ e. pos (c.cells.t _ s e) *ℤ factored_value_at_end c n e) c.cells.states
 
--- ---- of a pair that lacks nothing every reward counts
-all_counted : (c : Controller) (n s : ℕ) → IsLeastLacking c n s None → (e z : ℕ) → e < c.cells.states → z < c.cells.observations
-    → (at : Option ℕ) → c.next n z ≡ at → IsCounted c n s e z (c.cells.r (c.action n) s e z) at
-all_counted c n s h1 e z h2 h3 at h4 = grind arith
+module _ (c : Controller) (n : ℕ) (s : ℕ) where
+  -- ---- of a pair that lacks nothing every reward counts
+  all_counted : IsLeastLacking c n s None → (e z : ℕ) → e < c.cells.states → z < c.cells.observations
+      → (at : Option ℕ) → c.next n z ≡ at → IsCounted c n s e z (c.cells.r (c.action n) s e z) at
+  all_counted h1 e z h2 h3 at h4 = grind arith
 
-pub backing_split : (c : Controller) (n s : ℕ) → IsLeastLacking c n s None
-    → backing c n s ≡ pos one *ℤ factored_reward c.cells (c.action n) s +ℤ pos c.cells.discount *ℤ factored_value c n s
-backing_split c n s lacks = counted_split c n s (λ e z. c.cells.r (c.action n) s e z) (all_counted c n s lacks)
+  pub backing_split : IsLeastLacking c n s None
+      → backing c n s ≡ pos one *ℤ factored_reward c.cells (c.action n) s +ℤ pos c.cells.discount *ℤ factored_value c n s
+  backing_split lacks = counted_split c n s (c.cells.r (c.action n) s) (all_counted lacks)
 
--- ---- of any pair those count that are followed
-followed_counted : (c : Controller) (n s e z : ℕ) (at : Option ℕ) → c.next n z ≡ at
-    → IsCounted c n s e z (at_node (λ m. c.cells.r (c.action n) s e z) (c.next n z)) at
-followed_counted c n s e z at h1 = grind arith
+  -- ---- of any pair those count that are followed
+  followed_counted : (e z : ℕ) (at : Option ℕ) → c.next n z ≡ at
+      → IsCounted c n s e z (at_node (λ m. c.cells.r (c.action n) s e z) (c.next n z)) at
+  followed_counted e z at h1 = grind arith
 
-pub followed_split : (c : Controller) (n s : ℕ) → backing c n s ≡ pos one *ℤ factored_reward (followed c n) (c.action n) s
-    +ℤ pos c.cells.discount *ℤ factored_value c n s
-followed_split c n s = counted_split c n s (λ e z. at_node (λ m. c.cells.r (c.action n) s e z) (c.next n z))
-    (λ e z el zl at is. followed_counted c n s e z at is)
+  pub followed_split : backing c n s ≡ pos one *ℤ factored_reward (followed c n) (c.action n) s
+      +ℤ pos c.cells.discount *ℤ factored_value c n s
+  followed_split = counted_split c n s (λ e z. at_node (λ m. c.cells.r (c.action n) s e z) (c.next n z))
+      (λ e z el zl. followed_counted e z)

@@ -25,27 +25,27 @@ sum_more a (x ∷ xs) = omega (arith, sum_more (a + x) xs, sum_more (0 + x) xs)
 shares_sum : (xs : List ℕ) → total_below (λ s. pos (get_or xs s 0)) (length xs) ≡ pos (sum xs)
 shares_sum [] = refl
 shares_sum (x ∷ xs) =
-    let front = sum_below_front (λ s. pos (get_or (x ∷ xs) s 0)) (length xs) in
-    front ∙ ap (λ (r : ℤ). pos x +ℤ r) (shares_sum xs) ∙ ap (λ (k : ℕ). pos k) (omega (arith, sum_more (0 + x) xs))
+    (sum_below_front (λ s. pos (get_or (x ∷ xs) s 0)) (length xs)) ∙ ap (λ (r : ℤ). pos x +ℤ r) (shares_sum xs)
+    ∙ ap (λ (k : ℕ). pos k) (omega (arith, sum_more (0 + x) xs))
 
 pub start_row : (m : Meaning) → HasLimitedNumbers m → total_below (λ s. pos (start_weight m s)) (states_of m) ≡ pos (start_total m)
 start_row m limits =
-    rw limits.start_count at (shares_sum m.start.weights ∙ ap (λ (k : ℕ). pos k) limits.start_sum)
+    rw limits.start_count at (shares_sum m.start.weights ∙ ap (λ k. pos k) limits.start_sum)
 
 -- ---- one term
 pub value_fits : (value : ℤ) → unsigned_abs value ≤ largest → FitsSigned w128 value
 value_fits value small = fits_128 value largest small (lit< tt)
 
 pub term_small : (share : ℕ) (value : ℤ) → unsigned_abs value ≤ largest → unsigned_abs (pos share *ℤ value) ≤ share * largest
-term_small share value small = abs-*ℤ_le (pos share) value share largest (omega arith) small
+term_small share value small = abs-*ℤ_le (pos share) value share _ (omega arith) small
 
 -- ---- the sum
 pub start_part_le : (m : Meaning) (v : PolicyVectors) → HasLimitedNumbers m → AreProperVectors v → v.states ≡ states_of m → (n i : ℕ)
     → n < v.nodes → i ≤ states_of m → unsigned_abs (total_below (λ s. pos (start_weight m s) *ℤ value_of v n s) i) ≤ start_total m * largest
 start_part_le m v limits proper same n i nl il =
-    abs_part_le (λ s. pos (start_weight m s) *ℤ value_of v n s) (start_weight m) largest i (states_of m) (start_total m)
+    abs_part_le _ _ _ i _ _
     (start_row m limits) il
-    (λ s sl. term_small (start_weight m s) (value_of v n s) (value_is_within v proper n s nl (omega (arith, sl, same))))
+    (λ s sl. term_small _ (value_of v n s) (value_is_within v proper n s nl (omega (arith, sl, same))))
 
 pub start_fits : (total : ℕ) (x : ℤ) → total ≤ 1000000 → unsigned_abs x ≤ total * largest → FitsSigned w128 x
 start_fits total x few small = grind arith
@@ -63,23 +63,24 @@ start_step m v limits proper same n s share value x total nl sl share_is value_i
     rw add-one (rw (before, here) refl) in
     grind (arith, to_z, of_z, to_z-of_z, start_part_le, start_fits)
 
--- ---- the quotient
-pub floor_is : (a : ℤ) (k : ℕ) → 0 < k → IsFloorQuotient a k (int_div_euclid a (pos k))
-floor_is a k h1 = grind arith
+module _ (a : ℤ) (k : ℕ) where
+  -- ---- the quotient
+  pub floor_is : 0 < k → IsFloorQuotient a k (int_div_euclid a (pos k))
+  floor_is h1 = grind arith
 
-pub floor_small : (a : ℤ) (k m : ℕ) → 0 < k → unsigned_abs a ≤ k * m → unsigned_abs (int_div_euclid a (pos k)) ≤ m
-floor_small a k m h1 h2 = grind (arith, div-le_of_le-mul)
+  pub floor_small : (m : ℕ) → 0 < k → unsigned_abs a ≤ k * m → unsigned_abs (int_div_euclid a (pos k)) ≤ m
+  floor_small m h1 h2 = grind (arith, div-le_of_le-mul)
 
--- the code's quotient, which is cast to 64 bits
-pub floor_back : (a : ℤ) (k : ℕ) (q : ℤ) → 0 < k → k ≤ 1000000 → unsigned_abs a ≤ k * largest → FitsSigned w128 a
-    → q ≡ int_div_euclid (to_z w128 (of_z w128 a)) (to_z w128 k)
-    → IsFloorQuotient a k (to_z w64 (of_z w64 (to_z w128 (of_z w128 q))))
-    × (unsigned_abs (to_z w64 (of_z w64 (to_z w128 (of_z w128 q)))) ≤ largest)
-floor_back a k q some few small fa is =
-    let same : q ≡ int_div_euclid a (pos k) = rw (to_z-of_z w128 a fa, to_z_pos w128 k (omega arith)) at is in
-    let small_q : unsigned_abs q ≤ largest = rw same (floor_small a k largest some small) in
-    rw (to_z-of_z w128 q (value_fits q small_q), to_z-of_z w64 q (fits_signed_from_abs w64 q (omega (arith, small_q))))
-    (rw same (floor_is a k some), small_q)
+  -- the code's quotient, which is cast to 64 bits
+  pub floor_back : (q : ℤ) → 0 < k → k ≤ 1000000 → unsigned_abs a ≤ k * largest → FitsSigned w128 a
+      → q ≡ int_div_euclid (to_z w128 (of_z w128 a)) (to_z w128 k)
+      → IsFloorQuotient a k (to_z w64 (of_z w64 (to_z w128 (of_z w128 q))))
+      × (unsigned_abs (to_z w64 (of_z w64 (to_z w128 (of_z w128 q)))) ≤ largest)
+  floor_back q some few small fa is =
+      let same : q ≡ int_div_euclid a (pos k) = rw (to_z-of_z w128 a fa, to_z_pos w128 k (omega arith)) at is in
+      let small_q : unsigned_abs q ≤ largest = rw same (floor_small largest some small) in
+      rw (to_z-of_z w128 q (value_fits q small_q), to_z-of_z w64 q (fits_signed_from_abs w64 q (omega (arith, small_q))))
+      (rw same (floor_is some), small_q)
 
 -- the quotient as it is returned
 pub worth_is : (m : Meaning) (v : PolicyVectors) (n total : ℕ) (x q : ℤ) → FitsSigned w128 x → x ≡ start_sum m v n → total ≡ start_total m
@@ -93,7 +94,7 @@ pub mean_le : (start : ℕ → ℕ) (total x n : ℕ) (worth : ℤ) (value earne
     → (pos (total * x) *ℤ worth) ≤ℤ total_below (λ s. pos (start s) *ℤ earned s) n
 mean_le start total x n worth value earned mean each =
     ≤ℤ_trans _ _ _ (≤ℤ_from_eq _ _ (*ℤ_assoc (pos total) (pos x) worth ∙ *ℤ_left_comm (pos total) (pos x) worth))
-    (≤ℤ_trans _ _ _ (mul_le x _ _ mean) (≤ℤ_trans _ _ _ (≤ℤ_from_eq _ _ (sym (sum_below_scale (pos x) (λ s. pos (start s) *ℤ value s) n)))
+    (≤ℤ_trans _ _ _ (mul_le x _ _ mean) (≤ℤ_trans _ _ _ (≤ℤ_from_eq _ _ (sym (sum_below_scale (pos x) _ n)))
     (sum_below_le _ _ n (λ s sl. ≤ℤ_trans _ _ _ (≤ℤ_from_eq _ _ (*ℤ_left_comm (pos x) (pos (start s)) (value s)))
     (mul_le (start s) _ _ (each s sl))))))
 

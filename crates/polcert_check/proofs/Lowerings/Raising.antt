@@ -16,22 +16,23 @@ use Rattle.polcert_check.proofs.Agreements.Agreeing.{passes_alike}
 turned_sum : (x : ℤ) (by : ℕ) → neg_ℤ x -ℤ pos by ≡ neg_ℤ (x +ℤ pos by)
 turned_sum x by = omega (arith, linear)
 
--- the mirror image less `by` is that of the controller plus `by`
-same_moved : (c : Controller) (by : ℕ) → lowered_by (mirrored c) by ≡ mirrored (raised_by c by)
-same_moved c by = λ i. record (mirrored c) { value = λ n s. turned_sum (c.value n s) by i }
+module _ (c : Controller) where
+  -- the mirror image less `by` is that of the controller plus `by`
+  same_moved : (by : ℕ) → lowered_by (mirrored c) by ≡ mirrored (raised_by c by)
+  same_moved by = λ i. record (mirrored c) { value = λ n s. turned_sum (c.value n s) by i }
 
-passes_moved : (c : Controller) (by : ℕ) → Passes (lowered_by (mirrored c) by) ↔ PassesAbove (raised_by c by)
-passes_moved c by = (
-  (λ h. passes_above (raised_by c by) (subst Passes (same_moved c by) h)),
-  (λ h. subst Passes (sym (same_moved c by))
-      (passes_below (raised_by c by) h)),
-)
+  passes_moved : (by : ℕ) → Passes (lowered_by (mirrored c) by) ↔ PassesAbove (raised_by c by)
+  passes_moved by = (
+    (λ h. passes_above _ (subst Passes (same_moved by) h)),
+    (λ h. subst Passes (sym (same_moved by))
+        (passes_below _ h)),
+  )
 
-least_moved : (c : Controller) (by : ℕ) → IsLeast (mirrored c) by ↔ IsLeastAbove c by
-least_moved c by = (
-  (λ h. ((passes_moved c by).0 h.0, λ d l p. h.1 d l ((passes_moved c d).1 p))),
-  (λ h. ((passes_moved c by).1 h.0, λ d l p. h.1 d l ((passes_moved c d).0 p))),
-)
+  least_moved : (by : ℕ) → IsLeast (mirrored c) by ↔ IsLeastAbove c by
+  least_moved by = (
+    (λ h. ((passes_moved by).0 h.0, λ d l p. h.1 d l ((passes_moved d).1 p))),
+    (λ h. ((passes_moved by).1 h.0, λ d l p. h.1 d l ((passes_moved d).0 p))),
+  )
 
 -- ---- the range
 range_turned : (x : ℤ) (by : ℕ) → IsInRange (neg_ℤ x +ℤ neg_ℤ (pos by)) ↔ IsInRange (x +ℤ pos by)
@@ -44,25 +45,25 @@ can_raise v by = (
       (h n s nl sl)),
 )
 
--- ---- what is answered
-pub least_raise_is : (c : Controller) (v : PolicyVectors) (x : ℤ) → IsLeastMove (mirrored c) (CanMove Above v) x → IsLeastRaise c v x
-least_raise_is c v x h = (h.0, h.1, (least_moved c h.0).0 h.2, (can_raise v h.0).0 h.3)
+module _ (c : Controller) where
+  -- ---- what is answered
+  pub least_raise_is : (v : PolicyVectors) (x : ℤ) → IsLeastMove (mirrored c) (CanMove Above v) x → IsLeastRaise c v x
+  least_raise_is v x h = (h.0, h.1, (least_moved c h.0).0 h.2, (can_raise v h.0).0 h.3)
 
-pub least_move_is : (c : Controller) (v : PolicyVectors) (x : ℤ) → IsLeastRaise c v x → IsLeastMove (mirrored c) (CanMove Above v) x
-least_move_is c v x h = (h.0, h.1, (least_moved c h.0).1 h.2, (can_raise v h.0).1 h.3)
+  pub least_move_is : (v : PolicyVectors) (x : ℤ) → IsLeastRaise c v x → IsLeastMove (mirrored c) (CanMove Above v) x
+  least_move_is v x h = (h.0, h.1, (least_moved c h.0).1 h.2, (can_raise v h.0).1 h.3)
 
-first_long : (c : Controller) (n s : ℕ) (amount : ℤ) → IsFirstShort (mirrored c) n s amount → IsFirstLong c n s amount
-first_long c n s amount h = grind (arith, mirrored_short, turn_short)
+  first_long : (n s : ℕ) (amount : ℤ) → IsFirstShort (mirrored c) n s amount → IsFirstLong c n s amount
+  first_long n s amount h = grind (arith, mirrored_short, turn_short)
 
-first_short : (c : Controller) (n s : ℕ) (amount : ℤ) → IsFirstLong c n s amount → IsFirstShort (mirrored c) n s amount
-first_short c n s amount h = grind (arith, linear, mirrored_short)
+  first_short : (n s : ℕ) (amount : ℤ) → IsFirstLong c n s amount → IsFirstShort (mirrored c) n s amount
+  first_short n s amount h = grind (arith, linear, mirrored_short)
 
-pub not_raised_is : (c : Controller) (v : PolicyVectors) (fault : LowerFault) → IsNotMended (mirrored c) (CanMove Above v) fault
-    → IsNotRaised c v (raise_of fault)
-not_raised_is c v (lower.NoSuccessor n s z) h = h
-not_raised_is c v (lower.NoConstant n s amount) h = (h.0, (λ by p. h.1 by ((passes_moved c by).1 p)), first_long c n s amount h.2)
-not_raised_is c v lower.OutOfRange h = (h.0, (h.1.0, (least_moved c h.1.0).0 h.1.1, (λ can. h.1.2 ((can_raise v h.1.0).1 can))))
-not_raised_is c v lower.Memory h = h
+  pub not_raised_is : (v : PolicyVectors) (fault : LowerFault) → IsNotMended (mirrored c) (CanMove Above v) fault
+      → IsNotRaised c v (raise_of fault)
+  not_raised_is v (lower.NoConstant n s amount) h = (h.0, (λ by p. h.1 by ((passes_moved c by).1 p)), first_long n s amount h.2)
+  not_raised_is v lower.OutOfRange h = (h.0, (h.1.0, (least_moved c h.1.0).0 h.1.1, (λ can. h.1.2 ((can_raise v h.1.0).1 can))))
+  not_raised_is v _ h = h
 
 -- the refusal to lower the mirror image that says this from above
 abbrev pub lower_of : RaiseFault → LowerFault
@@ -74,23 +75,23 @@ lower_of raise.Memory = lower.Memory
 pub raise_again : (fault : RaiseFault) → raise_of (lower_of fault) ≡ fault
 raise_again fault = grind arith
 
-pub not_mended_is : (c : Controller) (v : PolicyVectors) (fault : RaiseFault) → IsNotRaised c v fault
-    → IsNotMended (mirrored c) (CanMove Above v) (lower_of fault)
-not_mended_is c v (raise.NoSuccessor n s z) h = h
-not_mended_is c v (raise.NoConstant n s amount) h = (h.0, (λ by p. h.1 by ((passes_moved c by).0 p)), first_short c n s amount h.2)
-not_mended_is c v raise.OutOfRange h = (h.0, (h.1.0, (least_moved c h.1.0).1 h.1.1, (λ can. h.1.2 ((can_raise v h.1.0).0 can))))
-not_mended_is c v raise.Memory h = h
+module _ (c : Controller) where
+  pub not_mended_is : (v : PolicyVectors) (fault : RaiseFault) → IsNotRaised c v fault
+      → IsNotMended (mirrored c) (CanMove Above v) (lower_of fault)
+  not_mended_is v (raise.NoConstant n s amount) h = (h.0, (λ by p. h.1 by ((passes_moved c by).0 p)), first_short c n s amount h.2)
+  not_mended_is v raise.OutOfRange h = (h.0, (h.1.0, (least_moved c h.1.0).1 h.1.1, (λ can. h.1.2 ((can_raise v h.1.0).0 can))))
+  not_mended_is v _ h = h
 
-pub small_raise : (c : Controller) (fault : LowerFault) → RefusesSmallAmount (mirrored c) fault → RefusesSmallRaise c (raise_of fault)
-small_raise c fault h1 = grind arith
+  pub small_raise : (fault : LowerFault) → RefusesSmallAmount (mirrored c) fault → RefusesSmallRaise c (raise_of fault)
+  small_raise fault h1 = grind arith
 
 -- ---- the raised vectors
 pub raised_passes : (t : CellTable) (g : PolicyGraph) (v w : PolicyVectors) → Fits t g v → IsController (controller_of t g v) → (by : ℕ)
     → PassesAbove (raised_by (controller_of t g v) by)
     → ((n s : ℕ) → n < v.nodes → s < v.states → value_of w n s ≡ value_of v n s +ℤ pos by) → PassesAbove (controller_of t g w)
 raised_passes t g v w fits p by passes shifted =
-    let c : Controller = raised_by (controller_of t g v) by in
-    passes_above (controller_of t g w)
-    (passes_alike (mirrored c) (record { actions_in_range = p.closed.actions_in_range; next_in_range = p.closed.next_in_range })
-    (λ n s. neg_ℤ (value_of w n s))
+    let c = raised_by (controller_of t g v) by in
+    passes_above _
+    (passes_alike _ (record { actions_in_range = p.closed.actions_in_range; next_in_range = p.closed.next_in_range })
+    _
     (λ n s nl sl. ap neg_ℤ (shifted n s (omega (arith, nl, fits.nodes_same)) (omega (arith, sl, fits.states)))) (passes_below c passes))

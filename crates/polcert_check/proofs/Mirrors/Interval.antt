@@ -1,7 +1,8 @@
 -- What passes from below is nowhere above what passes from above, where the discount is below 1.
+use Rattle.polcert_check.proofs.Common.{total_below}
 use Rattle.std.proofs.Common.{◌≡◌, ℕ, zero, suc, ◌+◌, ◌*◌, ◌<◌, ◌≤◌, ℤ, pos, ◌+ℤ◌, ◌-ℤ◌, ◌*ℤ◌, ◌≤ℤ◌, Option, Some, None, refl, ap, ◌∙◌}
 use Rattle.std.proofs.Common.{arith, unsigned_abs}
-use Rattle.polcert_check.proofs.Common.{cases_lt, ints, Controller, one, total_below, step_weight, step_scale, backing, Passes}
+use Rattle.polcert_check.proofs.Common.{cases_lt, ints, Controller, one, step_weight, step_scale, backing, Passes}
 use Rattle.polcert_check.proofs.Common.{IsController, PassesAbove}
 use Rattle.std.proofs.Math.Nat.{le_trans}
 use Rattle.polcert_check.proofs.Sums.Ring.{linear, below_cancel, products, sums, *ℤ-+ℤ, mul_le, ≤ℤ_trans, ≤ℤ_from_eq}
@@ -18,33 +19,34 @@ IsWithin c low b = (n s : ℕ) → n < c.nodes → s < c.cells.states → low n 
 gap_algebra : (w u r g v b : ℤ) → w *ℤ (u *ℤ r +ℤ g *ℤ (v +ℤ b)) ≡ w *ℤ (u *ℤ r +ℤ g *ℤ v) +ℤ (g *ℤ b) *ℤ w
 gap_algebra w u r g v b = simp (products, sums)
 
-gap_term : (c : Controller) (low : ℕ → ℕ → ℤ) (b n s e z : ℕ) → ((m : ℕ) → c.next n z ≡ Some m → low m e ≤ℤ (c.value m e +ℤ pos b))
-    → (at : Option ℕ) → c.next n z ≡ at
-    → backing_term (with_values c low) n s e z at ≤ℤ (backing_term c n s e z at +ℤ pos (c.cells.discount * b)
-    *ℤ pos (step_weight c n s e z))
-gap_term c low b n s e z h None is = omega (arith, linear)
-gap_term c low b n s e z h (Some m) is =
-    let w : ℕ = step_weight c n s e z in
-    let r : ℤ = pos one *ℤ c.cells.r (c.action n) s e z in
-    let g : ℕ = c.cells.discount in
-    let later : (pos g *ℤ low m e) ≤ℤ (pos g *ℤ (c.value m e +ℤ pos b)) = mul_le g _ _ (h m is) in
-    ≤ℤ_trans _ _ _ (mul_le w _ _ (omega (arith, linear)))
-    (≤ℤ_from_eq _ _ (gap_algebra (pos w) (pos one) (c.cells.r (c.action n) s e z) (pos g) (c.value m e) (pos b)))
+module _ (c : Controller) where
+  gap_term : (low : ℕ → ℕ → ℤ) (b n s e z : ℕ) → ((m : ℕ) → c.next n z ≡ Some m → low m e ≤ℤ (c.value m e +ℤ pos b))
+      → (at : Option ℕ) → c.next n z ≡ at
+      → backing_term (with_values c low) n s e z at ≤ℤ (backing_term c n s e z at +ℤ pos (c.cells.discount * b)
+      *ℤ pos (step_weight c n s e z))
+  gap_term low b n s e z h None is = omega (arith, linear)
+  gap_term low b n s e z h (Some m) is =
+      let w = step_weight c n s e z in
+      let r = pos one *ℤ c.cells.r (c.action n) s e z in
+      let g = c.cells.discount in
+      let later = mul_le g _ _ (h m is) in
+      ≤ℤ_trans _ _ _ (mul_le w _ _ (omega (arith, linear)))
+      (≤ℤ_from_eq _ _ (gap_algebra (pos w) (pos one) (c.cells.r (c.action n) s e z) (pos g) (c.value m e) (pos b)))
 
-gap_backing : (c : Controller) → IsController c → (low : ℕ → ℕ → ℤ) (b n s : ℕ) → n < c.nodes → s < c.cells.states → IsWithin c low b
-    → backing (with_values c low) n s ≤ℤ (backing c n s +ℤ pos (c.cells.discount * b) *ℤ pos (step_scale c))
-gap_backing c p low b n s nl sl within =
-    let x : ℤ = pos (c.cells.discount * b) in
-    let w = λ (e z : ℕ). pos (step_weight c n s e z) in
-    let old = λ (e z : ℕ). backing_term c n s e z (c.next n z) in
-    ≤ℤ_trans _ _ _
-    (sum_below_le _ (λ e. total_below (λ z. old e z +ℤ x *ℤ w e z) c.cells.observations) c.cells.states
-    (λ e el. sum_below_le _ _ c.cells.observations (λ z zl. gap_term c low b n s e z
-    (λ i is. within i e (p.closed.next_in_range n z i nl zl is) el) (c.next n z) refl)))
-    (≤ℤ_from_eq _ _
-    (sum_twice_add old (λ e z. x *ℤ w e z) c.cells.observations c.cells.states
-    ∙ ap (λ (y : ℤ). backing c n s +ℤ y) (sum_twice_scale x w c.cells.observations c.cells.states)
-    ∙ ap (λ (y : ℤ). backing c n s +ℤ x *ℤ y) (step_weights_sum c p n s nl sl)))
+  gap_backing : IsController c → (low : ℕ → ℕ → ℤ) (b n s : ℕ) → n < c.nodes → s < c.cells.states → IsWithin c low b
+      → backing (with_values c low) n s ≤ℤ (backing c n s +ℤ pos (c.cells.discount * b) *ℤ pos (step_scale c))
+  gap_backing p low b n s nl sl within =
+      let x : ℤ = pos (c.cells.discount * b) in
+      let w = λ (e z : ℕ). pos (step_weight c n s e z) in
+      let old = λ (e z : ℕ). backing_term c n s e z (c.next n z) in
+      ≤ℤ_trans _ _ _
+      (sum_below_le _ (λ e. total_below (λ z. old e z +ℤ x *ℤ w e z) c.cells.observations) c.cells.states
+      (λ e el. sum_below_le _ _ c.cells.observations (λ z zl. gap_term low b n s e z
+      (λ i is. within i e (p.closed.next_in_range n z i nl zl is) el) (c.next n z) refl)))
+      (≤ℤ_from_eq _ _
+      (sum_twice_add old (λ e z. x *ℤ w e z) c.cells.observations c.cells.states
+      ∙ ap (λ (y : ℤ). backing c n s +ℤ y) (sum_twice_scale x w c.cells.observations c.cells.states)
+      ∙ ap (λ (y : ℤ). backing c n s +ℤ x *ℤ y) (step_weights_sum c p n s nl sl)))
 
 shrink_nat : (q u g b : ℕ) → 0 < q → g < u → g * suc b * q < q * u * suc b
 shrink_nat q u g b h1 h2 = grind arith
@@ -71,12 +73,10 @@ closes : (c : Controller) → IsController c → PassesAbove c → (low : ℕ �
 closes c p above low below gl ql zero within = within
 closes c p above low below gl ql (suc b) within =
     closes c p above low below gl ql b (λ n s nl sl.
-    let lower : (pos (step_scale c * one) *ℤ low n s) ≤ℤ backing (with_values c low) n s = not_short_is _ _ (below n s nl sl).not_short in
-    let gap : backing (with_values c low) n s ≤ℤ (backing c n s +ℤ pos (c.cells.discount * suc b * step_scale c)) =
-    gap_backing c p low (suc b) n s nl sl within in
+    let lower = not_short_is _ _ (below n s nl sl).not_short in
     let upper : backing c n s ≤ℤ (pos (step_scale c * one) *ℤ c.value n s) = not_long_is _ _ (above n s nl sl).not_long in
     shrink (step_scale c) one c.cells.discount b (c.value n s) (low n s) ql gl
-    (≤ℤ_trans _ _ _ lower (≤ℤ_trans _ _ _ gap (step_up _ _ _ upper))))
+    (≤ℤ_trans _ _ _ lower (≤ℤ_trans _ _ _ (gap_backing c p low (suc b) n s nl sl within) (step_up _ _ _ upper))))
 
 -- ---- finitely many values are within some bound
 pub some_row : (f : ℕ → ℤ) (n : ℕ) → (b : ℕ) × ((i : ℕ) → i < n → unsigned_abs (f i) ≤ b)

@@ -15,11 +15,11 @@ neg_sum x y = sym (neg_ℤ-+ℤ x y)
 -- ---- sums
 pub sum_below_neg : (f : ℕ → ℤ) (n : ℕ) → total_below (λ i. neg_ℤ (f i)) n ≡ neg_ℤ (total_below f n)
 sum_below_neg f zero = refl
-sum_below_neg f (suc n) = ap (λ (x : ℤ). x +ℤ neg_ℤ (f n)) (sum_below_neg f n) ∙ neg_sum (total_below f n) (f n)
+sum_below_neg f (suc n) = ap (λ x. x +ℤ neg_ℤ (f n)) (sum_below_neg f n) ∙ neg_sum (total_below f n) (f n)
 
 sum_over_neg : {X : Type 0} (f : X → ℤ) (xs : List X) → sum_over (λ x. neg_ℤ (f x)) xs ≡ neg_ℤ (sum_over f xs)
 sum_over_neg f [] = refl
-sum_over_neg f (x ∷ xs) = ap (λ (y : ℤ). neg_ℤ (f x) +ℤ y) (sum_over_neg f xs) ∙ neg_sum (f x) (sum_over f xs)
+sum_over_neg f (x ∷ xs) = ap (λ y. neg_ℤ (f x) +ℤ y) (sum_over_neg f xs) ∙ neg_sum (f x) (sum_over f xs)
 
 get_neg : (xs : List ℤ) (i : ℕ) → get_or (map neg_ℤ xs) i (pos 0) ≡ neg_ℤ (get_or xs i (pos 0))
 get_neg [] i = refl
@@ -87,22 +87,23 @@ mirrored_total c k at s run = search (rules, neg_product, neg_sum, mirrored_end,
 mirrored_uncut : (c : Controller) (k : ℕ) (at : Option ℕ) → uncut (mirrored c) k at ≡ uncut c k at
 mirrored_uncut c k at = grind arith
 
--- ---- sums over the runs
-pub mirrored_weights : (c : Controller) (k : ℕ) (at : Option ℕ) (s : ℕ) → weights_sum (mirrored c) k at s ≡ weights_sum c k at s
-mirrored_weights c k at s = grind arith
+module _ (c : Controller) (k : ℕ) (at : Option ℕ) (s : ℕ) where
+  -- ---- sums over the runs
+  pub mirrored_weights : weights_sum (mirrored c) k at s ≡ weights_sum c k at s
+  mirrored_weights = grind arith
 
-mirrored_mean : (c : Controller) (k : ℕ) (at : Option ℕ) (s : ℕ) (f g : List (ℕ × ℕ) → ℤ) → ((run : List (ℕ × ℕ)) → f run ≡ neg_ℤ (g run))
-    → sum_over (λ run. pos (run_weight (mirrored c) at s run) *ℤ f run) (uncut (mirrored c) k at)
-    ≡ neg_ℤ (sum_over (λ run. pos (run_weight c at s run) *ℤ g run) (uncut c k at))
-mirrored_mean c k at s f g h =
-    ap (λ rs. sum_over (λ run. pos (run_weight (mirrored c) at s run) *ℤ f run) rs) (mirrored_uncut c k at)
-    ∙ sum_over_same _ (λ run. neg_ℤ (pos (run_weight c at s run) *ℤ g run)) (uncut c k at)
-    (λ run. ap (λ w. pos w *ℤ f run) (mirrored_weight c at s run) ∙ ap (λ (x : ℤ). pos (run_weight c at s run) *ℤ x) (h run)
-    ∙ neg_product (pos (run_weight c at s run)) (g run))
-    ∙ sum_over_neg (λ run. pos (run_weight c at s run) *ℤ g run) (uncut c k at)
+  mirrored_mean : (f g : List (ℕ × ℕ) → ℤ) → ((run : List (ℕ × ℕ)) → f run ≡ neg_ℤ (g run))
+      → sum_over (λ run. pos (run_weight (mirrored c) at s run) *ℤ f run) (uncut (mirrored c) k at)
+      ≡ neg_ℤ (sum_over (λ run. pos (run_weight c at s run) *ℤ g run) (uncut c k at))
+  mirrored_mean f g h =
+      ap (sum_over (λ run. pos (run_weight (mirrored c) at s run) *ℤ f run)) (mirrored_uncut c k at)
+      ∙ sum_over_same _ _ _
+      (λ run. ap (λ w. pos w *ℤ f run) (mirrored_weight c at s run) ∙ ap (λ x. pos (run_weight c at s run) *ℤ x) (h run)
+      ∙ neg_product (pos (run_weight c at s run)) (g run))
+      ∙ sum_over_neg (λ run. pos (run_weight c at s run) *ℤ g run) (uncut c k at)
 
-pub mirrored_worth : (c : Controller) (k : ℕ) (at : Option ℕ) (s : ℕ) → worth_sum (mirrored c) k at s ≡ neg_ℤ (worth_sum c k at s)
-mirrored_worth c k at s = mirrored_mean c k at s (total (mirrored c) k at s) (total c k at s) (mirrored_total c k at s)
+  pub mirrored_worth : worth_sum (mirrored c) k at s ≡ neg_ℤ (worth_sum c k at s)
+  mirrored_worth = mirrored_mean (total (mirrored c) k at s) (total c k at s) (mirrored_total c k at s)
 
-pub mirrored_earned : (c : Controller) (k : ℕ) (at : Option ℕ) (s : ℕ) → rewards_sum (mirrored c) k at s ≡ neg_ℤ (rewards_sum c k at s)
-mirrored_earned c k at s = mirrored_mean c k at s (reward_part (mirrored c) k at s) (reward_part c k at s) (mirrored_part c k at s)
+  pub mirrored_earned : rewards_sum (mirrored c) k at s ≡ neg_ℤ (rewards_sum c k at s)
+  mirrored_earned = mirrored_mean (reward_part (mirrored c) k at s) (reward_part c k at s) (mirrored_part c k at s)

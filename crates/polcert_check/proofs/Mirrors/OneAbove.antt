@@ -11,16 +11,17 @@ use Rattle.polcert_check.proofs.Mirrors.StartMosts.{floor_is_neg}
 pub one_above_verdict : (c : Controller) (x y : AboveVerdict) → IsAboveVerdict c x → IsAboveVerdict c y → x ≡ y
 one_above_verdict c x y is also = grind (arith, verdict_below, one_verdict)
 
-pub one_raise : (c : Controller) (v : PolicyVectors) (x y : ℤ) → IsLeastRaise c v x → IsLeastRaise c v y → x ≡ y
-one_raise c v x y is also = one_move (mirrored c) (CanMove Above v) x y (least_move_is c v x is) (least_move_is c v y also)
+module _ (c : Controller) (v : PolicyVectors) where
+  pub one_raise : (x y : ℤ) → IsLeastRaise c v x → IsLeastRaise c v y → x ≡ y
+  one_raise x y is also = one_move (mirrored c) (CanMove Above v) x y (least_move_is c v x is) (least_move_is c v y also)
 
-pub one_raise_reason : (c : Controller) (v : PolicyVectors) (f g : RaiseFault) → IsNotRaised c v f → IsNotRaised c v g → f ≡ g
-one_raise_reason c v f g is also = grind (arith, one_fault, not_mended_is)
+  pub one_raise_reason : (f g : RaiseFault) → IsNotRaised c v f → IsNotRaised c v g → f ≡ g
+  one_raise_reason f g is also = grind (arith, one_fault, not_mended_is)
 
--- not both a constant and a reason why there is none
-pub raise_or_reason : (c : Controller) (v : PolicyVectors) (x : ℤ) (f : RaiseFault) → IsLeastRaise c v x → IsNotRaised c v f → ⊥
-raise_or_reason c v x f is refused = move_or_fault (mirrored c) (CanMove Above v) x (lower_of f) (least_move_is c v x is)
-    (not_mended_is c v f refused)
+  -- not both a constant and a reason why there is none
+  pub raise_or_reason : (x : ℤ) (f : RaiseFault) → IsLeastRaise c v x → IsNotRaised c v f → ⊥
+  raise_or_reason x f is refused = move_or_fault (mirrored c) (CanMove Above v) x (lower_of f) (least_move_is c v x is)
+      (not_mended_is c v f refused)
 
 -- ---- the start
 same_negatives : (x y : ℤ) → neg_ℤ x ≡ neg_ℤ y → x ≡ y

@@ -6,7 +6,6 @@ use Rattle.polcert_check.proofs.Common.{PassesAbove, IsAboveVerdict, Controller,
 use Rattle.polcert_check.proofs.Common.{mirrored, CanMove, IsLeastMove, IsNotMended, Passes, IsVerdict, IsLeastRaise, IsNotRaised, IsClosed}
 use Rattle.polcert_check.proofs.Common.{IsStartMost, StartPromiseAbove, start_sum, IsCeilQuotient, StartPromise}
 use Rattle.polcert_check.specs.Horizon.{Fits}
-use Rattle.polcert_cells.specs.declared.elements.StartWeights.{StartWeights}
 use Rattle.polcert_check.proofs.Certificates.{closed_is}
 use Rattle.polcert_check.proofs.Mirrors.FromAbove.{below_of, above_again, verdict_above, verdict_below, horizon_above, horizon_below}
 use Rattle.polcert_check.proofs.Mirrors.FromAbove.{promise_above, promise_below, rewards_above, rewards_below, passes_above, passes_below}
@@ -31,7 +30,7 @@ module _ (x y : CellTable) (graph : PolicyGraph) (vectors : PolicyVectors) (same
   of_y = controller_of y graph vectors
 
   closed : IsClosed (mirrored of_x)
-  closed = sided_closed Above of_x (closed_is x graph vectors fits known)
+  closed = sided_closed Above of_x (closed_is x graph _ fits known)
 
   same_turned : HasSameCells (mirrored of_x).cells (turned_cells y)
   same_turned = grind arith
@@ -44,7 +43,7 @@ module _ (x y : CellTable) (graph : PolicyGraph) (vectors : PolicyVectors) (same
   pub same_above_verdict : (answer : AboveVerdict) → IsAboveVerdict of_x answer → IsAboveVerdict of_y answer
   same_above_verdict answer =
       by_mirror (λ d. IsAboveVerdict d answer) (λ d. IsVerdict d (below_of answer)) (λ d. verdict_below d answer)
-      (λ d is. subst (λ (a : AboveVerdict). IsAboveVerdict d a) (above_again answer) (verdict_above d (below_of answer) is))
+      (λ d is. subst (λ a. IsAboveVerdict d a) (above_again answer) (verdict_above d (below_of answer) is))
       (verdict_with (mirrored of_x) closed (turned_cells y) same_turned (below_of answer))
 
   pub same_above_promise : (k n s : ℕ) → n < nodes graph → s < x.states → PromiseAbove of_x k n s → PromiseAbove of_y k n s
@@ -71,7 +70,7 @@ module _ (x y : CellTable) (graph : PolicyGraph) (vectors : PolicyVectors) (same
   pub same_least_raise : (constant : ℤ) → IsLeastRaise of_x vectors constant → IsLeastRaise of_y vectors constant
   same_least_raise constant =
       by_mirror (λ d. IsLeastRaise d vectors constant) (λ d. IsLeastMove d (CanMove Above vectors) constant)
-      (λ d. least_move_is d vectors constant) (λ d. least_raise_is d vectors constant)
+      (λ d. least_move_is d vectors constant) (λ d. least_raise_is d vectors _)
       (least_move_with (mirrored of_x) closed (turned_cells y) same_turned (CanMove Above vectors) constant)
 
   pub same_not_raised : (fault : RaiseFault) → IsNotRaised of_x vectors fault → IsNotRaised of_y vectors fault
@@ -87,8 +86,8 @@ pub same_start_most : (m n : Meaning) → IsSame m n → (v : PolicyVectors) (mo
 same_start_most m n same v most (node, best, ceil) = (
   node,
   same_best_start m n same v node best,
-  subst (λ (total : ℕ). IsCeilQuotient (start_sum n v node) total most) (ap (λ (start : StartWeights). start.total) same.start)
-      (subst (λ (sum : ℤ). IsCeilQuotient sum (start_total m) most) (start_sum_same m n same v node) ceil),
+  subst (λ total. IsCeilQuotient (start_sum n v node) total most) (ap (λ start. start.total) same.start)
+      (subst (λ sum. IsCeilQuotient sum (start_total m) most) (start_sum_same m n same v node) ceil),
 )
 
 -- the promise from the start, for other cells and then for other shares

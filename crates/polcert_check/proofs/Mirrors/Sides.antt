@@ -21,4 +21,4 @@ pub sided_limits : (side : Side) (c : Controller) → IsWithinLimits c.cells →
 sided_limits side c limits = grind arith
 
 pub sided_values : (side : Side) (c : Controller) → ValuesAreWithin c → ValuesAreWithin (sided side c)
-sided_values side c values = λ n s nl sl. subst (λ (x : ℕ). x ≤ largest) (sym (turned_size side (c.value n s))) (values n s nl sl)
+sided_values side c values = λ n s nl sl. subst (λ x. x ≤ largest) (sym (turned_size side (c.value n s))) (values n s nl sl)

@@ -1,9 +1,12 @@
 -- The promise from above, from a model's start.
-use Rattle.std.proofs.Common.{◌≡◌, ◌∙◌, ℕ, ◌*◌, ◌<◌, ◌≤◌, ℤ, pos, neg_ℤ, ◌-ℤ◌, ◌*ℤ◌, ◌≤ℤ◌, Some, unsigned_abs, to_z, of_z, w64, refl, ap}
+use Rattle.std.proofs.Common.{◌≤ℤ◌}
+use Rattle.polcert_check.proofs.Common.{start_sum}
+use Rattle.polcert_check.proofs.Common.{Passes}
+use Rattle.std.proofs.Common.{◌≡◌, ◌∙◌, ℕ, ◌*◌, ◌<◌, ◌≤◌, ℤ, pos, neg_ℤ, ◌-ℤ◌, ◌*ℤ◌, Some, unsigned_abs, to_z, of_z, w64, refl, ap}
 use Rattle.std.proofs.Common.{arith}
 use Rattle.polcert_check.proofs.Common.{w128, largest, Meaning, states_of, start_weight, start_total, table_of, PolicyGraph, nodes}
-use Rattle.polcert_check.proofs.Common.{PolicyVectors, value_of, Controller, controller_of, total_below, worth_sum, IsController, start_sum}
-use Rattle.polcert_check.proofs.Common.{IsFloorQuotient, IsCeilQuotient, StartPromise, mirrored, Passes, Above, IsStartMost}
+use Rattle.polcert_check.proofs.Common.{PolicyVectors, value_of, Controller, controller_of, total_below, worth_sum, IsController}
+use Rattle.polcert_check.proofs.Common.{IsFloorQuotient, IsCeilQuotient, StartPromise, mirrored, Above, IsStartMost}
 use Rattle.polcert_check.proofs.Common.{StartPromiseAbove, PassesAbove}
 use Rattle.polcert_check.specs.Horizon.{Fits}
 use Rattle.polcert_check.proofs.Sums.Ring.{linear, ≤ℤ_trans, neg_product}
@@ -14,12 +17,13 @@ use Rattle.polcert_check.proofs.Mirrors.Sides.{sided_proper}
 use Rattle.polcert_check.proofs.Horizons.Cuts.{promise_all}
 use Rattle.polcert_check.proofs.Horizons.StartSums.{start_all}
 
--- ---- a quotient rounded up is that of the negative number rounded down, and back
-pub ceil_is : (sum : ℤ) (total : ℕ) (q : ℤ) → IsFloorQuotient (neg_ℤ sum) total q → IsCeilQuotient sum total (neg_ℤ q)
-ceil_is sum total q h = grind (arith, linear)
+module _ (sum : ℤ) (total : ℕ) (q : ℤ) where
+  -- ---- a quotient rounded up is that of the negative number rounded down, and back
+  pub ceil_is : IsFloorQuotient (neg_ℤ sum) total q → IsCeilQuotient sum total (neg_ℤ q)
+  ceil_is h = grind (arith, linear)
 
-pub floor_is_neg : (sum : ℤ) (total : ℕ) (q : ℤ) → IsCeilQuotient sum total q → IsFloorQuotient (neg_ℤ sum) total (neg_ℤ q)
-floor_is_neg sum total q h = grind arith
+  pub floor_is_neg : IsCeilQuotient sum total q → IsFloorQuotient (neg_ℤ sum) total (neg_ℤ q)
+  floor_is_neg h = grind arith
 
 -- ---- what the code negates
 pub neg_sum_is : (total : ℕ) (sum : ℤ) → total ≤ 1000000 → unsigned_abs sum ≤ total * largest
@@ -34,9 +38,9 @@ weighed_turned : (w : ℕ → ℕ) (f g : ℕ → ℤ) (count : ℕ) → ((i : �
     → total_below (λ i. pos (w i) *ℤ f i) count ≡ neg_ℤ (total_below (λ i. pos (w i) *ℤ g i) count)
 weighed_turned w f g count signed_from =
     cc (
-      sum_below_same _ (λ i. neg_ℤ (pos (w i) *ℤ g i)) count
-          (λ i _. ap (λ (x : ℤ). pos (w i) *ℤ x) (signed_from i) ∙ neg_product (pos (w i)) (g i)),
-      sum_below_neg (λ i. pos (w i) *ℤ g i) count,
+      sum_below_same _ _ count
+          (λ i _. ap (λ x. pos (w i) *ℤ x) (signed_from i) ∙ neg_product (pos (w i)) (g i)),
+      sum_below_neg _ count,
     )
 
 module _ (m : Meaning) (c : Controller) (k n : ℕ) (most : ℤ) where

@@ -6,46 +6,48 @@ use Rattle.polcert_check.proofs.Common.{sum_over}
 use Rattle.std.specs.Prelude.{⊤}
 use Rattle.polcert_check.proofs.Sums.Ring.{linear, products, sums, *ℤ-+ℤ, +ℤ-*ℤ}
 
--- ---- sums below n
-pub sum_below_same : (f g : ℕ → ℤ) (n : ℕ) → ((i : ℕ) → i < n → f i ≡ g i) → total_below f n ≡ total_below g n
-sum_below_same f g zero h = refl
-sum_below_same f g (suc n) h =
-    cc (sum_below_same f g n (λ i l. h i (omega arith)), h n (omega arith))
+module _ (f : ℕ → ℤ) (g : ℕ → ℤ) where
+  -- ---- sums below n
+  pub sum_below_same : (n : ℕ) → ((i : ℕ) → i < n → f i ≡ g i) → total_below f n ≡ total_below g n
+  sum_below_same zero h = refl
+  sum_below_same (suc n) h =
+      cc (sum_below_same n (λ i l. h i (omega arith)), h n (omega arith))
 
-pub sum_below_le : (f g : ℕ → ℤ) (n : ℕ) → ((i : ℕ) → i < n → f i ≤ℤ g i) → total_below f n ≤ℤ total_below g n
-sum_below_le f g zero h = omega (arith, linear)
-sum_below_le f g (suc n) h =
-    omega (arith, linear, sum_below_le f g n (λ i l. h i (omega arith)), h n (omega arith))
+  pub sum_below_le : (n : ℕ) → ((i : ℕ) → i < n → f i ≤ℤ g i) → total_below f n ≤ℤ total_below g n
+  sum_below_le zero h = omega (arith, linear)
+  sum_below_le (suc n) h =
+      omega (arith, linear, sum_below_le n (λ i l. h i (omega arith)), h n (omega arith))
 
 pub sum_below_scale : (a : ℤ) (f : ℕ → ℤ) (n : ℕ) → total_below (λ i. a *ℤ f i) n ≡ a *ℤ total_below f n
 sum_below_scale a f zero = sym (*ℤ-zero a)
 sum_below_scale a f (suc n) = rw (sum_below_scale a f n) (sym (*ℤ-+ℤ a (total_below f n) (f n)))
 
-pub sum_below_add : (f g : ℕ → ℤ) (n : ℕ) → total_below (λ i. f i +ℤ g i) n ≡ total_below f n +ℤ total_below g n
-sum_below_add f g zero = refl
-sum_below_add f g (suc n) = rw (sum_below_add f g n) (omega (arith, linear))
+module _ (f : ℕ → ℤ) where
+  pub sum_below_add : (g : ℕ → ℤ) (n : ℕ) → total_below (λ i. f i +ℤ g i) n ≡ total_below f n +ℤ total_below g n
+  sum_below_add g zero = refl
+  sum_below_add g (suc n) = rw (sum_below_add g n) (omega (arith, linear))
 
-pub sum_below_front : (f : ℕ → ℤ) (n : ℕ) → total_below f (suc n) ≡ f 0 +ℤ total_below (λ i. f (suc i)) n
-sum_below_front f zero = omega (arith, linear)
-sum_below_front f (suc n) = grind (arith, +ℤ_assoc, sum_below_front f n)
+  pub sum_below_front : (n : ℕ) → total_below f (suc n) ≡ f 0 +ℤ total_below (λ i. f (suc i)) n
+  sum_below_front zero = omega (arith, linear)
+  sum_below_front (suc n) = grind (arith, +ℤ_assoc, sum_below_front n)
 
-pub sum_below_split : (f : ℕ → ℤ) (a n : ℕ) → total_below f (a + n) ≡ total_below f a +ℤ total_below (λ i. f (a + i)) n
-sum_below_split f a zero =
-    let none : a + 0 ≡ a = omega arith in
-    rw none (sym (+ℤ_idr (total_below f a)))
-sum_below_split f a (suc n) =
-    let more : a + suc n ≡ suc (a + n) = omega arith in
-    rw (more, sum_below_split f a n) (+ℤ_assoc (total_below f a) (total_below (λ i. f (a + i)) n) (f (a + n)))
+  pub sum_below_split : (a n : ℕ) → total_below f (a + n) ≡ total_below f a +ℤ total_below (λ i. f (a + i)) n
+  sum_below_split a zero =
+      let none : a + 0 ≡ a = omega arith in
+      rw none (sym (+ℤ_idr (total_below f a)))
+  sum_below_split a (suc n) =
+      let more : a + suc n ≡ suc (a + n) = omega arith in
+      rw (more, sum_below_split a n) (+ℤ_assoc (total_below f a) (total_below (λ i. f (a + i)) n) (f (a + n)))
 
--- row after row
-pub sum_below_rows : (f : ℕ → ℤ) (rows width : ℕ) → total_below f (rows * width)
-    ≡ total_below (λ e. total_below (λ z. f (e * width + z)) width) rows
-sum_below_rows f zero width =
-    let none : 0 * width ≡ 0 = omega arith in
-    rw none refl
-sum_below_rows f (suc n) width =
-    let more : suc n * width ≡ n * width + width = omega arith in
-    rw (more, sum_below_split f (n * width) width, sum_below_rows f n width) refl
+  -- row after row
+  pub sum_below_rows : (rows width : ℕ) → total_below f (rows * width)
+      ≡ total_below (λ e. total_below (λ z. f (e * width + z)) width) rows
+  sum_below_rows zero width =
+      let none : 0 * width ≡ 0 = omega arith in
+      rw none refl
+  sum_below_rows (suc n) width =
+      let more : suc n * width ≡ n * width + width = omega arith in
+      rw (more, sum_below_split (n * width) width, sum_below_rows n width) refl
 
 -- ---- sums over a list
 pub sum_over_same_all : {X : Type 0} (P : X → Type 0) (f g : X → ℤ) (xs : List X) → ((x : X) → P x → f x ≡ g x) → All P xs

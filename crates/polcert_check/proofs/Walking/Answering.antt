@@ -1,5 +1,6 @@
 -- What the verdict says of every horizon, and how large an amount it names.
-use Rattle.std.proofs.Common.{◌≡◌, pos, ℤ, ◌<ℤ◌, subst, arith, rules}
+use Rattle.std.proofs.Common.{ℤ}
+use Rattle.std.proofs.Common.{◌≡◌, pos, ◌<ℤ◌, subst, arith, rules}
 use Rattle.polcert_check.proofs.Common.{Controller, MeetsHorizon, IsWithinLimits, IsVerdict, NamesSmallAmount, Verdict, Yes, Short}
 use Rattle.polcert_check.proofs.Common.{NoSuccessor, IsController, ValuesAreWithin, IsPair, IsFound, sided, Check, Findings, Side}
 use Rattle.polcert_check.proofs.Lowerings.Shorts.{short_le}
@@ -8,15 +9,16 @@ use Rattle.polcert_check.proofs.Walking.Outcomes.{verdict_is}
 use Rattle.polcert_check.proofs.Horizons.EveryHorizon.{every_horizon}
 use Rattle.polcert_check.proofs.Horizons.Refused.{refused_short, refused_lacking, cut_run}
 
-pub meets_horizon : (c : Controller) → IsController c → (v : Verdict) → IsVerdict c v → MeetsHorizon c v
-meets_horizon c p Yes is = every_horizon c p is
-meets_horizon c p (Short n s amount) is = refused_short c n s (subst (λ (x : ℤ). pos 0 <ℤ x) is.4 is.5)
-meets_horizon c p (NoSuccessor n s z) is = (refused_lacking c n s z is.3.0 is.3.1, cut_run c n s z is.3.0 is.3.1)
+module _ (c : Controller) where
+  pub meets_horizon : IsController c → (v : Verdict) → IsVerdict c v → MeetsHorizon c v
+  meets_horizon p Yes is = every_horizon c p is
+  meets_horizon p (Short n s amount) is = refused_short c n s (subst (λ (x : ℤ). pos 0 <ℤ x) is.4 is.5)
+  meets_horizon p (NoSuccessor n s z) is = (refused_lacking c n s z is.3.0 is.3.1, cut_run c n s z is.3.0 is.3.1)
 
--- ---- how large an amount is
-pub verdict_small : (c : Controller) → IsController c → IsWithinLimits c.cells → ValuesAreWithin c → (v : Verdict) → IsVerdict c v
-    → NamesSmallAmount c v
-verdict_small c h1 h2 h3 v h4 = grind (arith, short_le)
+  -- ---- how large an amount is
+  pub verdict_small : IsController c → IsWithinLimits c.cells → ValuesAreWithin c → (v : Verdict) → IsVerdict c v
+      → NamesSmallAmount c v
+  verdict_small h1 h2 h3 v h4 = grind (arith, short_le)
 
 -- ---- what is found from either side
 pub surveyed : (side : Side) (k : Controller) → IsController k → IsWithinLimits k.cells → ValuesAreWithin k → (f : Findings)

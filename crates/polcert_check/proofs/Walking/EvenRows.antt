@@ -67,8 +67,7 @@ place_le : (xs : List Cell) (d : Cell) → AreRising xs → (i : ℕ) → i < le
 place_le xs d up zero l = omega arith
 place_le xs d up (suc i) l =
     let before = place_le xs d up i (omega arith) in
-    let less = up i (suc i) d (omega arith) l in
-    omega (arith, before, less)
+    omega (arith, before, (up i (suc i) d (omega arith) l))
 
 -- the sum with the first exceptions
 abbrev pub until : ℕ → ℕ → List Cell → List ℤ → ℕ → ℤ
@@ -102,15 +101,14 @@ module _ (f : ℕ → ℕ) (count u : ℕ) (xs : List Cell) (numbers : List ℤ)
   total_le = let small = is.small in let few = is.few in grind arith
 
   pub weigh_room : u * unsigned_abs total ≤ most_sum
-  weigh_room = let q : u * unsigned_abs total ≤ 2 ^ 34 * 2 ^ 80 = mul-le-mul common_le total_le in omega (arith, q)
+  weigh_room = omega (arith, (mul-le-mul common_le total_le))
 
   pub start_le : unsigned_abs (pos u *ℤ total) ≤ 2 ^ 16 * 2 ^ 98
   start_le =
-      let q : u * unsigned_abs total ≤ 2 ^ 34 * 2 ^ 80 = mul-le-mul common_le total_le in
-      rw (unsigned_abs-mul (pos u) total) (omega (arith, q))
+      rw (unsigned_abs-mul (pos u) total) (omega (arith, (mul-le-mul common_le total_le)))
 
   pub until_none : pos u *ℤ total ≡ sum_to 0
-  until_none = ap (λ (t : ℤ). pos u *ℤ t) is.sum ∙ sym (sum_below_scale (pos u) x count)
+  until_none = ap (λ t. pos u *ℤ t) is.sum ∙ sym (sum_below_scale (pos u) x count)
 
   until_more : (i : ℕ) → i < length xs
       → sum_to i +ℤ (pos (cell i).weight *ℤ x (cell i).column -ℤ pos u *ℤ x (cell i).column) ≡ sum_to (suc i)
@@ -120,9 +118,9 @@ module _ (f : ℕ → ℕ) (count u : ℕ) (xs : List Cell) (numbers : List ℤ)
       let v = (cell i).weight in
       sym (one_term_more (λ e. pos (excepted_weight u (take i xs) e) *ℤ x e) (λ e. pos (excepted_weight u (take (suc i) xs) e) *ℤ x e) z
       (pos v *ℤ x z -ℤ pos u *ℤ x z) count (inside i l)
-      (λ k m apart. ap (λ (w : ℕ). pos w *ℤ x k) (taken_more u xs i k d l is.row.rising ∙ other z k v _ apart))
-      (ap (λ (w : ℕ). pos w *ℤ x z) (taken_more u xs i z d l is.row.rising ∙ same z v _) ∙ whole (pos v *ℤ x z) (pos u *ℤ x z)
-      ∙ ap (λ (w : ℕ). pos w *ℤ x z +ℤ (pos v *ℤ x z -ℤ pos u *ℤ x z)) (sym (taken_before u xs i d l is.row.rising))))
+      (λ k m apart. ap (λ w. pos w *ℤ x k) (taken_more u xs i k d l is.row.rising ∙ other z k v _ apart))
+      (ap (λ w. pos w *ℤ x z) (taken_more u xs i z d l is.row.rising ∙ same z v _) ∙ whole (pos v *ℤ x z) (pos u *ℤ x z)
+      ∙ ap (λ w. pos w *ℤ x z +ℤ (pos v *ℤ x z -ℤ pos u *ℤ x z)) (sym (taken_before u xs i d l is.row.rising))))
     where
       other : (z k v w : ℕ) → (k ≡ z → ⊥) → cond (z == k) v w ≡ w
       other z k v w apart = grind (arith, nat_tests)
@@ -134,8 +132,8 @@ module _ (f : ℕ → ℕ) (count u : ℕ) (xs : List Cell) (numbers : List ℤ)
       whole a b = omega (arith, linear)
 
   pub until_all : sum_to (length xs) ≡ total_below (λ c. pos (f c) *ℤ x c) count
-  until_all = ap (λ (ys : List Cell). total_below (λ e. pos (excepted_weight u ys e) *ℤ x e) count) (take_all (length xs) xs (omega arith))
-      ∙ sum_below_same _ _ count (λ c l. ap (λ (w : ℕ). pos w *ℤ x c) (is.row.each c l))
+  until_all = ap (λ ys. total_below (λ e. pos (excepted_weight u ys e) *ℤ x e) count) (take_all (length xs) xs (omega arith))
+      ∙ sum_below_same _ _ count (λ c l. ap (λ w. pos w *ℤ x c) (is.row.each c l))
 
   -- one exception more, in 128 bits
   pub even_more : (i : ℕ) (sum g : ℤ) → i < length xs → sum ≡ sum_to i → unsigned_abs sum ≤ (2 ^ 16 + i) * 2 ^ 98 → FitsSigned w128 g
@@ -144,73 +142,74 @@ module _ (f : ℕ → ℕ) (count u : ℕ) (xs : List Cell) (numbers : List ℤ)
       × (unsigned_abs (to_z w128 (of_z w128 (sum +ℤ to_z w128 (of_z w128 g)))) ≤ (2 ^ 16 + (i + 1)) * 2 ^ 98)
   even_more i sum g l before small fits changed le =
       let next : sum +ℤ g ≡ sum_to (suc i) = rw (before, changed) (until_more i l) in
-      let both : unsigned_abs (sum +ℤ g) ≤ unsigned_abs sum + unsigned_abs g = abs-+ℤ sum g in
+      let both = abs-+ℤ sum g in
       let bound : unsigned_abs (sum_to (suc i)) ≤ (2 ^ 16 + (i + 1)) * 2 ^ 98 =
-      subst (λ (t : ℤ). unsigned_abs t ≤ (2 ^ 16 + (i + 1)) * 2 ^ 98) next (omega (arith, both, small, le)) in
+      subst (λ t. unsigned_abs t ≤ (2 ^ 16 + (i + 1)) * 2 ^ 98) next (omega (arith, both, small, le)) in
       let place = place_le xs (record { column = 0; weight = 0 }) is.row.rising i l in
       let few : (2 ^ 16 + (i + 1)) * 2 ^ 98 < 2 ^ 127 = omega (arith, place, inside i l, is.few) in
-      let step = add_step sum g (sum_to (suc i)) ((2 ^ 16 + (i + 1)) * 2 ^ 98) fits next bound few in
-      (step.0, rw add-one step.1, subst (λ (t : ℤ). unsigned_abs t ≤ (2 ^ 16 + (i + 1)) * 2 ^ 98) (sym step.1) bound)
+      let step = add_step sum g _ _ fits next bound few in
+      (step.0, rw add-one step.1, subst (λ t. unsigned_abs t ≤ (2 ^ 16 + (i + 1)) * 2 ^ 98) (sym step.1) bound)
 
--- ---- the values of a node
--- the sum with one value more
-pub total_more : (xs : List ℤ) (e : ℕ) (v total : ℤ) → e < length xs → total ≡ total_below (λ i. slice_index_or xs i (pos 0)) e
-    → total +ℤ v ≡ total_below (λ i. slice_index_or (set xs e v) i (pos 0)) (e + 1)
-total_more xs e v total room before =
-    let kept = sum_below_same (λ i. slice_index_or xs i (pos 0)) (λ i. slice_index_or (set xs e v) i (pos 0)) e
-    (λ i l. grind (arith, get_or-set_other)) in
-    let here : slice_index_or (set xs e v) e (pos 0) ≡ v = grind (arith, get_or-set_at) in
-    rw add-one (cc (before, kept, here))
+module _ (xs : List ℤ) (e : ℕ) (v : ℤ) where
+  -- ---- the values of a node
+  -- the sum with one value more
+  pub total_more : (total : ℤ) → e < length xs → total ≡ total_below (λ i. slice_index_or xs i (pos 0)) e
+      → total +ℤ v ≡ total_below (λ i. slice_index_or (set xs e v) i (pos 0)) (e + 1)
+  total_more total room before =
+      let kept = sum_below_same (λ i. slice_index_or xs i (pos 0)) (λ i. slice_index_or (set xs e v) i (pos 0)) e
+      (λ i l. grind (arith, get_or-set_other)) in
+      let here : slice_index_or (set xs e v) e (pos 0) ≡ v = grind (arith, get_or-set_at) in
+      rw add-one (cc (before, kept, here))
 
--- the same in 128 bits
-pub total_step : (xs : List ℤ) (e : ℕ) (v w sum : ℤ) → e < length xs → e < 2 ^ 20 → sum ≡ total_below (λ i. slice_index_or xs i (pos 0)) e
-    → unsigned_abs sum ≤ e * 2 ^ 63 → FitsSigned w128 w → w ≡ v → unsigned_abs w ≤ 2 ^ 63
-    → (to_z w128 (of_z w128 (sum +ℤ to_z w128 (of_z w128 w))) ≡ total_below (λ i. slice_index_or (set xs e v) i (pos 0)) (e + 1))
-    × (unsigned_abs (to_z w128 (of_z w128 (sum +ℤ to_z w128 (of_z w128 w)))) ≤ (e + 1) * 2 ^ 63)
-total_step xs e v w sum room few before small fits same le =
-    let next : sum +ℤ w ≡ total_below (λ i. slice_index_or (set xs e v) i (pos 0)) (e + 1) = rw same (total_more xs e v sum room before) in
-    let both : unsigned_abs (sum +ℤ w) ≤ unsigned_abs sum + unsigned_abs w = abs-+ℤ sum w in
-    let bound : unsigned_abs (total_below (λ i. slice_index_or (set xs e v) i (pos 0)) (e + 1)) ≤ (e + 1) * 2 ^ 63 =
-    subst (λ (t : ℤ). unsigned_abs t ≤ (e + 1) * 2 ^ 63) next (omega (arith, both, small, le)) in
-    let step = add_step sum w _ ((e + 1) * 2 ^ 63) fits next bound (omega (arith, few)) in
-    (step.1, subst (λ (t : ℤ). unsigned_abs t ≤ (e + 1) * 2 ^ 63) (sym step.1) bound)
+  -- the same in 128 bits
+  pub total_step : (w sum : ℤ) → e < length xs → e < 2 ^ 20 → sum ≡ total_below (λ i. slice_index_or xs i (pos 0)) e
+      → unsigned_abs sum ≤ e * 2 ^ 63 → FitsSigned w128 w → w ≡ v → unsigned_abs w ≤ 2 ^ 63
+      → (to_z w128 (of_z w128 (sum +ℤ to_z w128 (of_z w128 w))) ≡ total_below (λ i. slice_index_or (set xs e v) i (pos 0)) (e + 1))
+      × (unsigned_abs (to_z w128 (of_z w128 (sum +ℤ to_z w128 (of_z w128 w)))) ≤ (e + 1) * 2 ^ 63)
+  total_step w sum room few before small fits same le =
+      let next : sum +ℤ w ≡ total_below (λ i. slice_index_or (set xs e v) i (pos 0)) (e + 1) = rw same (total_more sum room before) in
+      let bound : unsigned_abs (total_below (λ i. slice_index_or (set xs e v) i (pos 0)) (e + 1)) ≤ (e + 1) * 2 ^ 63 =
+      subst (λ (t : ℤ). unsigned_abs t ≤ (e + 1) * 2 ^ 63) next (omega (arith, (abs-+ℤ sum w), small, le)) in
+      let step = add_step sum w _ ((e + 1) * 2 ^ 63) fits next bound (omega (arith, few)) in
+      (step.1, subst (λ (t : ℤ). unsigned_abs t ≤ (e + 1) * 2 ^ 63) (sym step.1) bound)
 
-pub complete_more : (c : Controller) (n e : ℕ) (xs : List ℤ) (v w : ℤ) → e < length xs → w ≡ v
-    → ((s i : ℕ) → s < c.cells.states → i < e → 0 < c.cells.t (c.action n) s i → IsCompleteValue c n i (slice_index_or xs i (pos 0)))
-    → ((s : ℕ) → s < c.cells.states → 0 < c.cells.t (c.action n) s e → IsCompleteValue c n e v)
-    → (s i : ℕ) → s < c.cells.states → i < e + 1 → 0 < c.cells.t (c.action n) s i
-    → IsCompleteValue c n i (slice_index_or (set xs e w) i (pos 0))
-complete_more c n e xs v w room same before here s i sl il some = ⊎_elim
-    (λ l. subst (λ (x : ℤ). IsCompleteValue c n i x) (sym (get_or-set_other xs e i w (pos 0) (λ f. omega (arith, l, f))))
-    (before s i sl l some))
-    (λ ge.
-    let at : i ≡ e = omega (arith, il, ge) in
-    let set_at : slice_index_or (set xs e w) e (pos 0) ≡ w = grind (arith, get_or-set_at) in
-    subst (λ k. IsCompleteValue c n k (slice_index_or (set xs e w) k (pos 0))) (sym at)
-    (subst (λ (x : ℤ). IsCompleteValue c n e x) (sym (set_at ∙ same)) (here s sl (subst (λ k. 0 < c.cells.t (c.action n) s k) at some))))
-    (cases_lt i e)
+module _ (c : Controller) where
+  pub complete_more : (n e : ℕ) (xs : List ℤ) (v w : ℤ) → e < length xs → w ≡ v
+      → ((s i : ℕ) → s < c.cells.states → i < e → 0 < c.cells.t (c.action n) s i → IsCompleteValue c n i (slice_index_or xs i (pos 0)))
+      → ((s : ℕ) → s < c.cells.states → 0 < c.cells.t (c.action n) s e → IsCompleteValue c n e v)
+      → (s i : ℕ) → s < c.cells.states → i < e + 1 → 0 < c.cells.t (c.action n) s i
+      → IsCompleteValue c n i (slice_index_or (set xs e w) i (pos 0))
+  complete_more n e xs v w room same before here s i sl il some = ⊎_elim
+      (λ l. subst (λ (x : ℤ). IsCompleteValue c n i x) (sym (get_or-set_other xs e i w (pos 0) (λ f. omega (arith, l, f))))
+      (before s i sl l some))
+      (λ ge.
+      let at : i ≡ e = omega (arith, il, ge) in
+      let set_at : slice_index_or (set xs e w) e (pos 0) ≡ w = grind (arith, get_or-set_at) in
+      subst (λ k. IsCompleteValue c n k (slice_index_or (set xs e w) k (pos 0))) (sym at)
+      (subst (λ (x : ℤ). IsCompleteValue c n e x) (sym (set_at ∙ same)) (here s sl (subst (λ k. 0 < c.cells.t (c.action n) s k) at some))))
+      (cases_lt i e)
 
-pub even_sum : (c : Controller) (p : IsController c) → IsWithinLimits c.cells → (n s : ℕ) → n < c.nodes → s < c.cells.states
-    → (u : ℕ) (xs : List Cell) → (columns : ℕ) × IsEvenRow (c.cells.t (c.action n) s) c.cells.states u columns xs
-    → (ends : EndValues) → c.cells.states ≤ length ends.narrow → AreEndValues c n c.cells.states ends → ends.are_narrow ≡ true
-    → IsEvenSum (c.cells.t (c.action n) s) c.cells.states u xs ends.narrow ends.total
-even_sum c p limits n s nl sl u xs row ends room are narrow = record {
-  columns = row.0;
-  row = row.1;
-  few = limits.states.1;
-  limited = λ e el. let le = term_le (c.cells.t (c.action n) s) e c.cells.states c.cells.t_scale
-      (t_rows c.cells p.cells (c.action n) s (p.closed.actions_in_range n nl) sl) el in let scale = limits.t_scale in grind arith;
-  room = room;
-  sum = are.total narrow;
-  small = are.small narrow;
-}
+  pub even_sum : (p : IsController c) → IsWithinLimits c.cells → (n s : ℕ) → n < c.nodes → s < c.cells.states
+      → (u : ℕ) (xs : List Cell) → (columns : ℕ) × IsEvenRow (c.cells.t (c.action n) s) c.cells.states u columns xs
+      → (ends : EndValues) → c.cells.states ≤ length ends.narrow → AreEndValues c n c.cells.states ends → ends.are_narrow ≡ true
+      → IsEvenSum (c.cells.t (c.action n) s) c.cells.states u xs ends.narrow ends.total
+  even_sum p limits n s nl sl u xs row ends room are narrow = record {
+    columns = row.0;
+    row = row.1;
+    few = limits.states.1;
+    limited = λ e el. let le = term_le _ e _ _
+        (t_rows c.cells p.cells (c.action n) s (p.closed.actions_in_range n nl) sl) el in let scale = limits.t_scale in grind arith;
+    room = room;
+    sum = are.total narrow;
+    small = are.small narrow;
+  }
 
-pub even_value : (c : Controller) (n s : ℕ) → s < c.cells.states → (ends : EndValues) → AreEndValues c n c.cells.states ends
-    → ends.are_narrow ≡ true → (value : ℤ)
-    → value ≡ total_below (λ e. pos (c.cells.t (c.action n) s e) *ℤ slice_index_or ends.narrow e (pos 0)) c.cells.states
-    → IsExpectedValue c n s (record { value = value; missing = None })
-even_value c n s sl ends are narrow value is = record {
-  value = is ∙ sum_below_same _ _ c.cells.states
-      (λ e l. same_if_some (c.cells.t (c.action n) s e) _ _ (λ some. (are.narrow narrow s e sl l some).value));
-  missing = λ z missed. (are.narrow narrow s missed.0 sl missed.1 missed.2).missing z missed.3;
-}
+  pub even_value : (n s : ℕ) → s < c.cells.states → (ends : EndValues) → AreEndValues c n c.cells.states ends
+      → ends.are_narrow ≡ true → (value : ℤ)
+      → value ≡ total_below (λ e. pos (c.cells.t (c.action n) s e) *ℤ slice_index_or ends.narrow e (pos 0)) c.cells.states
+      → IsExpectedValue c n s (record { value = value; missing = None })
+  even_value n s sl ends are narrow value is = record {
+    value = is ∙ sum_below_same _ _ _
+        (λ e l. same_if_some (c.cells.t _ s e) _ _ (λ some. (are.narrow narrow s e sl l some).value));
+    missing = λ z missed. (are.narrow narrow s missed.0 sl missed.1 missed.2).missing z missed.3;
+  }

@@ -22,11 +22,12 @@ other_number a b d = grind (arith, nat_tests)
 equal_numbers : (a : ℕ) → (a == a) ≡ true
 equal_numbers a = grind (arith, nat_tests)
 
-pub hit : (a b : ℕ) (x y : ℤ) → a ≡ b → cond (a == b) x y ≡ x
-hit a b x y e = ap (λ t. cond t x y) (ap (λ k. k == b) e ∙ equal_numbers b)
+module _ (a : ℕ) (b : ℕ) (x : ℤ) (y : ℤ) where
+  pub hit : a ≡ b → cond (a == b) x y ≡ x
+  hit e = ap (λ t. cond t x y) (ap (λ k. k == b) e ∙ equal_numbers b)
 
-pub miss : (a b : ℕ) (x y : ℤ) → (a ≡ b → ⊥) → cond (a == b) x y ≡ y
-miss a b x y d = ap (λ t. cond t x y) (other_number a b d)
+  pub miss : (a ≡ b → ⊥) → cond (a == b) x y ≡ y
+  miss d = ap (λ t. cond t x y) (other_number a b d)
 
 -- ---- a sum of which one term changes
 pub one_term_more : (f g : ℕ → ℤ) (i : ℕ) (x : ℤ) (n : ℕ) → i < n → ((k : ℕ) → k < n → (k ≡ i → ⊥) → g k ≡ f k) → g i ≡ f i +ℤ x
@@ -55,16 +56,17 @@ module _ (r : ℕ → ℤ) (h : ℤ) (cells : List RewardCell) where
 pub small_of : (h : ℤ) → FitsSigned w64 h → unsigned_abs h ≤ 2 ^ 63
 small_of h h1 = grind arith
 
--- the difference, as the code computes it
-pub difference_is : (x h : ℤ) → FitsSigned w64 x → FitsSigned w64 h
-    → to_z w128 (of_z w128 (to_z w64 (of_z w64 x))) -ℤ to_z w128 (of_z w128 (to_z w64 (of_z w64 h))) ≡ x -ℤ h
-difference_is x h f k = grind arith
+module _ (x : ℤ) (h : ℤ) where
+  -- the difference, as the code computes it
+  pub difference_is : FitsSigned w64 x → FitsSigned w64 h
+      → to_z w128 (of_z w128 (to_z w64 (of_z w64 x))) -ℤ to_z w128 (of_z w128 (to_z w64 (of_z w64 h))) ≡ x -ℤ h
+  difference_is f k = grind arith
 
-abs-minus : (x h : ℤ) (b : ℕ) → unsigned_abs x ≤ largest → unsigned_abs h + largest ≤ b → unsigned_abs (x -ℤ h) ≤ b
-abs-minus x h b l m = omega (arith, ints)
+  abs-minus : (b : ℕ) → unsigned_abs x ≤ largest → unsigned_abs h + largest ≤ b → unsigned_abs (x -ℤ h) ≤ b
+  abs-minus b l m = omega (arith, ints)
 
-whole_part : (x h : ℤ) → x ≡ h +ℤ (x -ℤ h)
-whole_part x h = omega (arith, linear)
+  whole_part : x ≡ h +ℤ (x -ℤ h)
+  whole_part = omega (arith, linear)
 
 -- the reward of an exception has 64 bits
 exception_fits : (r x : ℤ) → r ≡ x → unsigned_abs r ≤ largest → FitsSigned w64 x
@@ -91,16 +93,20 @@ module _ (answers : ℕ → ℕ → Type 0) (scale : ℕ) (common : CommonReward
 
   sum_until_le : (n : ℕ) → unsigned_abs (until n) ≤ 2 * most_sum
   sum_until_le n =
-      let first : unsigned_abs (pos scale *ℤ common.reward) ≤ scale * b =
-      abs-*ℤ_le (pos scale) common.reward scale b (omega arith) (omega (arith, are.small)) in
       let both : unsigned_abs (until n) ≤ _ = abs-+ℤ (pos scale *ℤ common.reward) (total_below (λ k. pos (w k) *ℤ differs n k) count) in
-      omega (arith, first, part_le are.weighed (differs n) (λ k l. differs_le n k l) count (omega arith), both, are.weighed.room)
+      omega (
+        arith,
+        (abs-*ℤ_le (pos scale) common.reward scale b (omega arith) (omega (arith, are.small))),
+        part_le are.weighed (differs n)
+            (λ k l. differs_le n k l) count (omega arith),
+        both,
+        are.weighed.room,
+      )
 
   pub sum_until_none : pos scale *ℤ common.reward ≡ until 0
   sum_until_none =
-      let none : total_below (λ k. pos (w k) *ℤ pos 0) count ≡ pos 0 =
-      cc (sum_below_same _ (λ k. pos 0) count (λ k l. *ℤ-zero (pos (w k))), zeros count) in
-      sym (ap (λ (x : ℤ). pos scale *ℤ common.reward +ℤ x) none ∙ +ℤ_idr (pos scale *ℤ common.reward))
+      sym (ap (λ (x : ℤ). pos scale *ℤ common.reward +ℤ x)
+      (cc (sum_below_same _ (λ k. pos 0) count (λ k l. *ℤ-zero (pos (w k))), zeros count)) ∙ +ℤ_idr (pos scale *ℤ common.reward))
     where
       zeros : (n : ℕ) → total_below (λ z. pos 0) n ≡ pos 0
       zeros zero = refl
@@ -161,8 +167,8 @@ module _ (answers : ℕ → ℕ → Type 0) (scale : ℕ) (common : CommonReward
 
     pub exception_room : FitsSigned w128 computed → weight * unsigned_abs (to_z w128 (of_z w128 computed)) ≤ most_sum
     exception_room f =
-        rw (to_z-of_z w128 computed f, computed_is) (weight_room are.weighed (cell_at cells i).observation weight
-        (r (cell_at cells i).observation -ℤ common.reward) (are.rewards.within i il) weight_is
+        rw (to_z-of_z w128 _ f, computed_is) (weight_room are.weighed (cell_at cells i).observation weight
+        (r (cell_at cells i).observation -ℤ _) (are.rewards.within i il) weight_is
         (difference_le (cell_at cells i).observation (are.rewards.within i il)))
 
     -- the sum after one exception more
@@ -170,6 +176,6 @@ module _ (answers : ℕ → ℕ → Type 0) (scale : ℕ) (common : CommonReward
         → sum ≡ until i
         → FitsSigned w128 (sum +ℤ to_z w128 (of_z w128 x)) × (to_z w128 (of_z w128 (sum +ℤ to_z w128 (of_z w128 x))) ≡ until (i + 1))
     exception_more sum x fx fd xe before =
-        let part = weighed_is weight _ x computed _ fd xe weight_is computed_is in
-        rw add-one (add_step sum x (until (suc i)) (2 * most_sum) fx (rw (before, part) (sum_until_more i il)) (sum_until_le (suc i))
+        let part = weighed_is weight _ x _ _ fd xe weight_is computed_is in
+        rw add-one (add_step sum x _ _ fx (rw (before, part) (sum_until_more i il)) (sum_until_le (suc i))
         (lit< tt))

@@ -52,13 +52,14 @@ worst_more c P Q n s worst here r next is at left right one = grind (arith, line
 positive_is : (amount x : ℤ) (size : ℕ) → amount ≡ x → pos 0 <ℤ amount → size ≡ unsigned_abs amount → pos size ≡ x
 positive_is amount x size e some is = grind arith
 
--- ---- the findings, with one pair more
-passes_for : (mode : Mode) (c : Controller) (n s : ℕ) → PairPasses c n s → IsVerdictFor mode c n s Yes
-passes_for mode c n s h1 = grind arith
+module _ (mode : Mode) (c : Controller) (n : ℕ) (s : ℕ) where
+  -- ---- the findings, with one pair more
+  passes_for : PairPasses c n s → IsVerdictFor mode c n s Yes
+  passes_for h1 = grind arith
 
-lacks_none_for : (mode : Mode) (c : Controller) (n s m t : ℕ) (amount : ℤ) → mode ≡ Lowering → IsPairVerdict c n s (Short m t amount)
-    → IsVerdictFor mode c n s Yes
-lacks_none_for mode c n s m t amount h1 h2 = grind arith
+  lacks_none_for : (m t : ℕ) (amount : ℤ) → mode ≡ Lowering → IsPairVerdict c n s (Short m t amount)
+      → IsVerdictFor mode c n s Yes
+  lacks_none_for m t amount h1 h2 = grind arith
 
 module _ (c : Controller) (P Q : Pairs) (n s : ℕ) (next : IsNext P Q n s) (f : Findings) (is : IsFound c P f) where
   pub noted_pass : PairPasses c n s → IsFound c Q f

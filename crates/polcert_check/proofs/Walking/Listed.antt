@@ -27,4 +27,4 @@ pub listed_at_end : (m : CellTable) → IsProper m → IsWithinLimits m
     → ((r : ℕ → ℤ) (count : ℕ) → e < count → IsCommonReward r count common cells → AreOrdered common cells → h ≡ r e)
     → x ≡ pos m.o_scale *ℤ h → x ≡ reward_at_end m a s e
 listed_at_end m p limits a s e common cells h x al el are found is = is
-    ∙ alike m p limits a s e h al el (λ z zl. sym (found (λ e. m.r a s e z) m.states el (are.0 z zl) are.1))
+    ∙ alike m p limits a s e h al el (λ z zl. sym (found _ _ el (are.0 z zl) are.1))

@@ -31,18 +31,16 @@ module _ (c : Controller) (n s from to : ℕ) (fl : from ≤ to) (none : (k : �
   further : (z : ℕ) → IsMissedBefore c n s from z → IsMissedBefore c n s to z
   further z missed = grind arith
 
-  nearer : (z : ℕ) → IsMissedBefore c n s to z → IsMissedBefore c n s from z
-  nearer z missed = (missed.0, grind arith, missed.2, missed.3)
-
   pub before_on : (x : Option ℕ) → IsLeastOf (IsMissedBefore c n s from) x → IsLeastOf (IsMissedBefore c n s to) x
-  before_on x least = least_same (IsMissedBefore c n s from) (IsMissedBefore c n s to) x least nearer further
+  before_on x least = least_same _ _ x least (λ z missed. (missed.0, grind arith, missed.2, missed.3)) further
 
--- ---- a pair
-lack_before : (c : Controller) (n s z : ℕ) → z < c.cells.observations → Lacks c n s z → IsMissedBefore c n s c.cells.states z
-lack_before c n s z h1 h2 = grind arith
+module _ (c : Controller) (n : ℕ) (s : ℕ) (z : ℕ) where
+  -- ---- a pair
+  lack_before : z < c.cells.observations → Lacks c n s z → IsMissedBefore c n s c.cells.states z
+  lack_before h1 h2 = grind arith
 
-before_lack : (c : Controller) (n s z : ℕ) → IsMissedBefore c n s c.cells.states z → (z < c.cells.observations) × Lacks c n s z
-before_lack c n s z h1 = grind (arith, positive_product)
+  before_lack : IsMissedBefore c n s c.cells.states z → (z < c.cells.observations) × Lacks c n s z
+  before_lack h1 = grind (arith, positive_product)
 
 -- the least observation that is missed over all end states is the least that the pair lacks
 pub pair_lacking : (c : Controller) (n s : ℕ) (x : Option ℕ) → IsLeastOf (IsMissedBefore c n s c.cells.states) x → IsLeastLacking c n s x
@@ -51,6 +49,5 @@ pair_lacking c n s (Some z) least =
     let here = before_lack c n s z least.0 in (
       here.0,
       here.1,
-      λ y l lack. let zl : z < c.cells.observations = here.0 in
-          least.1 y l (lack_before c n s y (omega (arith, l, zl)) lack),
+      λ y l lack. least.1 y l (lack_before c n s y (omega (arith, l, here.0)) lack),
     )

@@ -16,12 +16,12 @@ use Rattle.polcert_check.proofs.Walking.Expecting.{no_value}
 -- ---- one term
 
 scaled_term : (n scale : ℕ) (x : ℤ) → pos scale *ℤ (pos n *ℤ x) ≡ pos (n * scale) *ℤ x
-scaled_term n scale x = sym (*ℤ_assoc (pos scale) (pos n) x) ∙ ap (λ (k : ℕ). pos k *ℤ x) (mul_comm scale n)
+scaled_term n scale x = sym (*ℤ_assoc (pos scale) (pos n) x) ∙ ap (λ k. pos k *ℤ x) (mul_comm scale n)
 
 -- what has no weight may be any number
 pub same_if_some : (w : ℕ) (x y : ℤ) → (0 < w → x ≡ y) → pos w *ℤ x ≡ pos w *ℤ y
 same_if_some zero x y h = zero-*ℤ x ∙ sym (zero-*ℤ y)
-same_if_some (suc w) x y h = ap (λ (t : ℤ). pos (suc w) *ℤ t) (h (omega arith))
+same_if_some (suc w) x y h = ap (λ t. pos (suc w) *ℤ t) (h (omega arith))
 
 scaled_successor : (n scale : ℕ) (v : ℕ → ℤ) (at : Option ℕ)
     → pos scale *ℤ at_node (λ m. pos n *ℤ v m) at ≡ at_node (λ m. pos (n * scale) *ℤ v m) at
@@ -36,25 +36,23 @@ module _ (f : ℕ → ℕ) (count scale : ℕ) (ns : List ℕ) (row : IsRow coun
 
   pub none_after : (upto c : ℕ) → (upto < count → length ns ≤ upto) → upto ≤ c → c < count → f c ≡ 0
   none_after upto c all from l =
-      let past : length ns ≤ upto = all (omega arith) in
-      let none : slice_index ns c ≡ 0 = get_or_past ns c 0 (omega arith) in
-      let zero : 0 * scale ≡ 0 = omega arith in
-      sym (weight_of_number c l) ∙ ap (λ (n : ℕ). n * scale) none ∙ zero
+      let past = all (omega arith) in
+      let none = get_or_past ns c 0 (omega arith) in
+      sym (weight_of_number c l) ∙ ap (λ (n : ℕ). n * scale) none ∙ (omega arith)
 
   -- the sum of numbers times values, scaled, is the sum of weights times values
   pub scaled_total : (v g : ℕ → ℤ) (upto : ℕ) → ((c : ℕ) → c < count → 0 < f c → v c ≡ g c) → upto ≤ count
       → (upto < count → length ns ≤ upto)
       → pos scale *ℤ total_below (λ i. pos (slice_index ns i) *ℤ v i) upto ≡ total_below (λ i. pos (f i) *ℤ g i) count
   scaled_total v g upto same within all =
-      sym (sum_below_scale (pos scale) (λ i. pos (slice_index ns i) *ℤ v i) upto)
-      ∙ sum_below_same (λ i. pos scale *ℤ (pos (slice_index ns i) *ℤ v i)) (λ i. pos (f i) *ℤ g i) upto each
+      sym (sum_below_scale (pos scale) _ upto)
+      ∙ sum_below_same _ _ upto each
       ∙ sym (gap (λ i. pos (f i) *ℤ g i) upto count within (λ k from l. no_weight (f k) (g k) (none_after upto k all from l)))
     where
       each : (i : ℕ) → i < upto → pos scale *ℤ (pos (slice_index ns i) *ℤ v i) ≡ pos (f i) *ℤ g i
       each i l =
-          let inside : i < count = omega arith in
-          scaled_term (slice_index ns i) scale (v i) ∙ ap (λ (w : ℕ). pos w *ℤ v i) (weight_of_number i inside)
-          ∙ same_if_some (f i) (v i) (g i) (same i inside)
+          scaled_term (slice_index ns i) scale (v i) ∙ ap (λ (w : ℕ). pos w *ℤ v i) (weight_of_number i (omega arith))
+          ∙ same_if_some (f i) (v i) (g i) (same i (omega arith))
 
 -- ---- a row of O
 
@@ -63,20 +61,19 @@ module _ (c : Controller) (n e scale : ℕ) (ns : List ℕ)
   pub scaled_value : (upto : ℕ) → upto ≤ c.cells.observations → (upto < c.cells.observations → length ns ≤ upto)
       → pos scale *ℤ successors_below c n e ns upto ≡ factored_value_at_end c n e
   scaled_value upto within all =
-      sym (sum_below_scale (pos scale) (λ z. at_node (λ m. pos (slice_index ns z) *ℤ c.value m e) (c.next n z)) upto)
-      ∙ sum_below_same (λ z. pos scale *ℤ at_node (λ m. pos (slice_index ns z) *ℤ c.value m e) (c.next n z))
-      (λ z. value_term c n e z (c.next n z)) upto each
+      sym (sum_below_scale (pos scale) _ upto)
+      ∙ sum_below_same _
+      _ upto each
       ∙ sym (gap (λ z. value_term c n e z (c.next n z)) upto c.cells.observations within
-      (λ k from l. no_value c n e k (c.next n k) (none_after (c.cells.o (c.action n) e) c.cells.observations scale ns row upto k all from
+      (λ k from l. no_value c n e k (c.next n k) (none_after _ _ scale ns row upto k all from
       l)))
     where
       each : (z : ℕ) → z < upto → pos scale *ℤ at_node (λ m. pos (slice_index ns z) *ℤ c.value m e) (c.next n z)
           ≡ value_term c n e z (c.next n z)
       each z l =
-          let inside : z < c.cells.observations = omega arith in
           scaled_successor (slice_index ns z) scale (λ m. c.value m e) (c.next n z)
           ∙ ap (λ (w : ℕ). at_node (λ m. pos w *ℤ c.value m e) (c.next n z))
-          (weight_of_number (c.cells.o (c.action n) e) c.cells.observations scale ns row z inside)
+          (weight_of_number (c.cells.o (c.action n) e) c.cells.observations scale ns row z (omega arith))
 
   -- one observation more for which a successor is not missed
   pub none_more : (z : ℕ) → z < c.cells.observations → (c.next n z ≡ None → slice_index ns z ≡ 0) → IsLeastOf (Misses c n e z) None
@@ -85,12 +82,12 @@ module _ (c : Controller) (n e scale : ℕ) (ns : List ℕ)
       (λ less. before y (less, missed.1, missed.2))
       (λ ge.
       let is : y ≡ z = let low = missed.0 in omega arith in
-      let number : slice_index ns z ≡ 0 = here (ap (c.next n) (sym is) ∙ missed.1) in
+      let number = here (ap (c.next n) (sym is) ∙ missed.1) in
       let zero : 0 * scale ≡ 0 = omega arith in
-      let none : c.cells.o (c.action n) e z ≡ 0 = sym (weight_of_number (c.cells.o (c.action n) e) c.cells.observations scale ns row z l)
-      ∙ ap (λ (k : ℕ). k * scale) number ∙ zero in
-      let some : 0 < c.cells.o (c.action n) e y = missed.2 in
-      let same : c.cells.o (c.action n) e y ≡ c.cells.o (c.action n) e z = ap (c.cells.o (c.action n) e) is in
+      let none : c.cells.o (c.action n) e z ≡ 0 = sym (weight_of_number _ _ scale ns row z l)
+      ∙ ap (λ k. k * scale) number ∙ zero in
+      let some = missed.2 in
+      let same = ap (c.cells.o (c.action n) e) is in
       absurd (omega arith))
       (cases_lt y z)
 
@@ -100,9 +97,9 @@ module _ (c : Controller) (n e scale : ℕ) (ns : List ℕ)
   none_at_all upto all before = λ y missed. ⊎_elim
       (λ less. before y (less, missed.1, missed.2))
       (λ ge.
-      let none : c.cells.o (c.action n) e y ≡ 0 = none_after (c.cells.o (c.action n) e) c.cells.observations scale ns row upto y all ge
+      let none = none_after _ _ scale ns row upto y all ge
       missed.0 in
-      let some : 0 < c.cells.o (c.action n) e y = missed.2 in
+      let some = missed.2 in
       absurd (omega arith))
       (cases_lt y upto)
 
@@ -110,17 +107,15 @@ module _ (c : Controller) (n e scale : ℕ) (ns : List ℕ)
 
 pub scaled_room : (scale : ℕ) (sum total : ℤ) (b : ℕ) → pos scale *ℤ sum ≡ total → unsigned_abs total ≤ b → scale * unsigned_abs sum ≤ b
 scaled_room scale sum total b is le =
-    let size : unsigned_abs (pos scale *ℤ sum) ≡ scale * unsigned_abs sum = unsigned_abs-mul (pos scale) sum in
     let same : unsigned_abs (pos scale *ℤ sum) ≡ unsigned_abs total = ap (λ (x : ℤ). unsigned_abs x) is in
-    omega (arith, size, same, le)
+    omega (arith, (unsigned_abs-mul (pos scale) sum), same, le)
 
 -- ---- one product more
 
 pub product_small : (n : ℕ) (v : ℤ) → n < 2 ^ 32 → unsigned_abs v ≤ 2 ^ 63 → n * unsigned_abs v ≤ 2 ^ 95
 product_small n v few small =
     let most : n ≤ 2 ^ 32 = omega (arith, few) in
-    let q : n * unsigned_abs v ≤ 2 ^ 32 * 2 ^ 63 = mul-le-mul most small in
-    omega (arith, q)
+    omega (arith, (mul-le-mul most small))
 
 pub product_more : (f : ℕ → ℤ) (i : ℕ) (sum x : ℤ) → sum ≡ total_below f i → unsigned_abs sum ≤ i * 2 ^ 95 → i < 2 ^ 20 → FitsSigned w128 x
     → x ≡ f i → unsigned_abs x ≤ 2 ^ 95
@@ -128,8 +123,7 @@ pub product_more : (f : ℕ → ℤ) (i : ℕ) (sum x : ℤ) → sum ≡ total_b
     × (unsigned_abs (to_z w128 (of_z w128 (sum +ℤ to_z w128 (of_z w128 x)))) ≤ (i + 1) * 2 ^ 95)
 product_more f i sum x before small few fits is le =
     let next : sum +ℤ x ≡ total_below f (suc i) = rw (before, is) refl in
-    let both : unsigned_abs (sum +ℤ x) ≤ unsigned_abs sum + unsigned_abs x = abs-+ℤ sum x in
     let bound : unsigned_abs (total_below f (suc i)) ≤ (i + 1) * 2 ^ 95 =
-    subst (λ (t : ℤ). unsigned_abs t ≤ (i + 1) * 2 ^ 95) next (omega (arith, both, small, le)) in
+    subst (λ (t : ℤ). unsigned_abs t ≤ (i + 1) * 2 ^ 95) next (omega (arith, (abs-+ℤ sum x), small, le)) in
     let step = add_step sum x (total_below f (suc i)) ((i + 1) * 2 ^ 95) fits next bound (omega (arith, few)) in
     (step.0, rw add-one step.1, subst (λ (t : ℤ). unsigned_abs t ≤ (i + 1) * 2 ^ 95) (sym step.1) bound)

@@ -1,7 +1,8 @@
 -- A row of T and the rows of O at its end states as one row of weights, end state after end state.
+use Rattle.polcert_check.proofs.Common.{reward_at_end}
 use Rattle.std.proofs.Common.{◌≡◌, ◌∙◌, ℕ, ◌+◌, ◌*◌, ◌/◌, ◌%◌, ◌^◌, ◌<◌, ◌≤◌, ℤ, pos, ◌*ℤ◌, unsigned_abs, List, refl, ap, arith}
 use Rattle.polcert_check.proofs.Common.{*ℤ_comm, largest, CellTable, IsProper, IsWithinLimits, CommonReward, RewardCell, row_reward, one}
-use Rattle.polcert_check.proofs.Common.{total_below, factored_reward, reward_at_end, most_scales, AreExcepted, IsWeighed, row_weight}
+use Rattle.polcert_check.proofs.Common.{total_below, factored_reward, most_scales, AreExcepted, IsWeighed, row_weight}
 use Rattle.polcert_check.proofs.Common.{weighed_total}
 use Rattle.polcert_cells.specs.CommonRewards.{IsCommonReward}
 use Rattle.std.proofs.Math.Nat.{mul-le-mul, div-lt_iff_lt-mul, mod-lt}
@@ -16,11 +17,11 @@ use Rattle.polcert_check.proofs.Sums.SumLaws.{sum_below_same, sum_below_scale, s
 
 module _ (m : CellTable) (a s : ℕ) where
   weight_at : (e z : ℕ) → z < m.observations → row_weight m a s (e * m.observations + z) ≡ m.t a s e * m.o a e z
-  weight_at e z l = rw (div-mul-add e m.observations z l, mod-mul-add e m.observations z l) refl
+  weight_at e z l = rw (div-mul-add e _ z l, mod-mul-add e _ z l) refl
 
   reward_at : (e z : ℕ) → z < m.observations → row_reward m a s (e * m.observations + z) ≡ m.r a s e z
-  reward_at e z l = ap (λ (k : ℕ). m.r a s k ((e * m.observations + z) % m.observations)) (div-mul-add e m.observations z l)
-      ∙ ap (m.r a s e) (mod-mul-add e m.observations z l)
+  reward_at e z l = ap (λ k. m.r a s k ((e * m.observations + z) % m.observations)) (div-mul-add e _ z l)
+      ∙ ap (m.r a s e) (mod-mul-add e _ z l)
 
   -- the sum of all is the nested one
   pub row_total : weighed_total (row_weight m a s) (row_reward m a s) (m.states * m.observations) ≡ factored_reward m a s
@@ -47,12 +48,12 @@ module _ (m : CellTable) (p : IsProper m) (limits : IsWithinLimits m) (a s : ℕ
   weights_total : total_below (λ k. pos (row_weight m a s k)) (m.states * m.observations) ≡ pos (m.t_scale * m.o_scale)
   weights_total =
       sum_below_rows (λ k. pos (row_weight m a s k)) m.states m.observations
-      ∙ sum_below_same _ (λ e. pos m.o_scale *ℤ pos (m.t a s e)) m.states (λ e el.
-      sum_below_same _ (λ z. pos (m.t a s e) *ℤ pos (m.o a e z)) m.observations (λ z zl. ap pos (weight_at m a s e z zl))
-      ∙ sum_below_scale (pos (m.t a s e)) (λ z. pos (m.o a e z)) m.observations
-      ∙ ap (λ (x : ℤ). pos (m.t a s e) *ℤ x) (o_rows m p a e al el) ∙ *ℤ_comm (pos (m.t a s e)) (pos m.o_scale))
-      ∙ sum_below_scale (pos m.o_scale) (λ e. pos (m.t a s e)) m.states
-      ∙ ap (λ (x : ℤ). pos m.o_scale *ℤ x) (t_rows m p a s al sl) ∙ *ℤ_comm (pos m.o_scale) (pos m.t_scale)
+      ∙ sum_below_same _ _ _ (λ e el.
+      sum_below_same _ _ _ (λ z zl. ap pos (weight_at m a s e z zl))
+      ∙ sum_below_scale (pos (m.t a s e)) _ m.observations
+      ∙ ap (λ x. pos (m.t a s e) *ℤ x) (o_rows m p a e al el) ∙ *ℤ_comm (pos (m.t a s e)) (pos m.o_scale))
+      ∙ sum_below_scale (pos m.o_scale) _ m.states
+      ∙ ap (λ x. pos m.o_scale *ℤ x) (t_rows m p a s al sl) ∙ *ℤ_comm (pos m.o_scale) (pos m.t_scale)
 
   both_weighed : IsWeighed (row_weight m a s) (m.states * m.observations) (m.t_scale * m.o_scale) (2 * largest)
   both_weighed = record {
@@ -64,10 +65,12 @@ module _ (m : CellTable) (p : IsProper m) (limits : IsWithinLimits m) (a s : ℕ
   -- a weight of both has 63 bits
   pub weight_of_both : (e z : ℕ) → e < m.states → z < m.observations → m.t a s e * m.o a e z ≤ most_scales
   weight_of_both e z el zl =
-      let q : m.t a s e * m.o a e z ≤ m.t_scale * m.o_scale =
-      mul-le-mul (term_le (m.t a s) e m.states m.t_scale (t_rows m p a s al sl) el)
-      (term_le (m.o a e) z m.observations m.o_scale (o_rows m p a e al el) zl) in
-      omega (arith, q, scales_le m limits)
+      omega (
+        arith,
+        (mul-le-mul (term_le (m.t a s) e m.states m.t_scale (t_rows m p a s al sl) el)
+            (term_le (m.o a e) z m.observations m.o_scale (o_rows m p a e al el) zl)),
+        scales_le m limits,
+      )
 
   -- ---- rewards of a start state, and of an end state
 
@@ -98,5 +101,5 @@ module _ (m : CellTable) (p : IsProper m) (limits : IsWithinLimits m) (a s : ℕ
     });
     rewards = is;
     small = omega (arith, small);
-    limited = λ z zl. limits.r a s e z al sl el zl;
+    limited = λ z. limits.r a s e z al sl el;
   }

@@ -27,5 +27,5 @@ module _ (m : CellTable) (p : IsProper m) (limits : IsWithinLimits m) (a s : ℕ
   pub same_row_run : ((z : ℕ) → z < m.observations → m.o a e z ≡ m.o a run.end z) → run.reward ≡ reward_at_end m a s e
   same_row_run same =
       is.reward
-      ∙ sum_below_same _ _ m.observations (λ z zl. ap (λ (w : ℕ). pos w *ℤ m.r a s run.end z) (sym (same z zl))
-      ∙ ap (λ (h : ℤ). pos (m.o a e z) *ℤ h) (sym (is.same e z from to el zl)))
+      ∙ sum_below_same _ _ _ (λ z zl. ap (λ w. pos w *ℤ m.r a s run.end z) (sym (same z zl))
+      ∙ ap (λ h. pos (m.o a e z) *ℤ h) (sym (is.same e z from to el zl)))

@@ -12,7 +12,7 @@ module _ (f : ℕ → ℤ) (count : ℕ) (xs : List ℤ) (e : ℕ) (x : ℤ) (ro
 -- two start states with the same rewards share those at end states
 pub at_end_same : (m : CellTable) (a s other e : ℕ) → ((z : ℕ) → z < m.observations → m.r a s e z ≡ m.r a other e z)
     → reward_at_end m a s e ≡ reward_at_end m a other e
-at_end_same m a s other e same = sum_below_same _ _ m.observations (λ z l. ap (λ (x : ℤ). pos (m.o a e z) *ℤ x) (same z l))
+at_end_same m a s other e same = sum_below_same _ _ _ (λ z l. ap (λ x. pos (m.o a e z) *ℤ x) (same z l))
 
 pub known_of_other : (m : CellTable) (a s other : ℕ) (xs : List ℤ)
     → ((e z : ℕ) → e < m.states → z < m.observations → m.r a s e z ≡ m.r a other e z)

@@ -27,11 +27,11 @@ module _ (c : Controller) where
   node_over a n s f is left =
       found_wider c (IsWalked c a n s) (IsWalked c a (n + 1) 0) f is
       (λ m t p. grind arith)
-      (λ m t q. ⊎_elim (λ (p : IsWalked c a n s m t). inl p) (λ (k : IsLeft a n s m t). inr (left m t k)) (from_node a n s m t q))
+      (λ m t q. ⊎_elim (λ p. inl p) (λ k. inr (left m t k)) (from_node a n s m t q))
 
   pub node_done : (a n s : ℕ) (f : Findings) → IsFoundBefore c a n s f → c.cells.states ≤ s → IsFoundBefore c a (n + 1) 0 f
   node_done a n s f is all =
-      node_over a n s f is (λ m t k. let l : s ≤ t = k.2 in let h : t < c.cells.states = k.3 in absurd (omega (arith, l, h, all)))
+      node_over a n s f is (λ m t k. let l = k.2 in absurd (omega (arith, l, k.3, all)))
 
   pub node_settled : (n s : ℕ) (f : Findings) → IsFoundBefore c (c.action n) n s f → NamesUntil f.first n
       → IsFoundBefore c (c.action n) (n + 1) 0 f
@@ -39,7 +39,7 @@ module _ (c : Controller) where
 
   pub node_passed : (a n : ℕ) (f : Findings) → IsFoundBefore c a n 0 f → (c.action n ≡ a → ⊥) → IsFoundBefore c a (n + 1) 0 f
   node_passed a n f is other =
-      node_over a n 0 f is (λ m t k. absurd (other (subst (λ (j : ℕ). c.action j ≡ a) k.0 k.1)))
+      node_over a n 0 f is (λ m t k. absurd (other (subst (λ j. c.action j ≡ a) k.0 k.1)))
 
   -- ---- the nodes of an action are done
   pub action_done : (a n : ℕ) (f : Findings) → IsFoundBefore c a n 0 f → c.nodes ≤ n → IsFoundBefore c (a + 1) 0 0 f
@@ -53,4 +53,4 @@ module _ (c : Controller) where
   pub all_walked : IsClosed c → (a : ℕ) (f : Findings) → IsFoundBefore c a 0 0 f → c.cells.actions ≤ a → IsFound c (IsPair c) f
   all_walked closed a f is all =
       found_wider c (IsWalked c a 0 0) (IsPair c) f is (λ m t p. p.0)
-      (λ m t q. inl (q, inl (let l : c.action m < c.cells.actions = closed.actions_in_range m q.0 in omega (arith, l, all))))
+      (λ m t q. inl (q, inl (omega (arith, (closed.actions_in_range m q.0), all))))

@@ -42,9 +42,15 @@ pub weighed_step : {w : ℕ → ℕ} {count scale b : ℕ} → IsWeighed w count
     → x ≡ pos v *ℤ to_z w128 (of_z w128 y) → y ≡ f i → FitsSigned w128 (sum +ℤ to_z w128 (of_z w128 x))
     × (to_z w128 (of_z w128 (sum +ℤ to_z w128 (of_z w128 x))) ≡ total_below (λ i. pos (w i) *ℤ f i) (i + 1))
 weighed_step {w} {count} {scale} {b} row f small from i v sum x y fl il vi none before fx fy xe ye =
-    let le : unsigned_abs (total_below (λ i. pos (w i) *ℤ f i) (suc i)) ≤ scale * b = part_le row f small (suc i) (omega arith) in
     cursor_step (λ i. pos (w i) *ℤ f i) (most_sum) from i sum x fl (λ k kl kh. no_weight (w k) (f k) (none k kl kh)) before fx
-    (weighed_is v (w i) x y (f i) fy xe vi ye) (omega (arith, le, row.room)) (lit< tt)
+    (weighed_is v (w i) x y (f i) fy xe vi ye) (omega (arith, (part_le row f small (suc i) (omega arith)), row.room)) (lit< tt)
+
+pub next_weighed : {w : ℕ → ℕ} {count scale b : ℕ} → IsWeighed w count scale b → (f : ℕ → ℤ)
+    → ((i : ℕ) → i < count → unsigned_abs (f i) ≤ b) → (from i v : ℕ) (sum x y : ℤ) → IsNext w count from (Some (i, v))
+    → sum ≡ total_below (λ i. pos (w i) *ℤ f i) from → FitsSigned w128 x → FitsSigned w128 y
+    → x ≡ pos v *ℤ to_z w128 (of_z w128 y) → y ≡ f i → FitsSigned w128 (sum +ℤ to_z w128 (of_z w128 x))
+    × (to_z w128 (of_z w128 (sum +ℤ to_z w128 (of_z w128 x))) ≡ total_below (λ i. pos (w i) *ℤ f i) (i + 1))
+next_weighed row f small from i v sum x y next = weighed_step row f small from i v sum x y next.0 next.1 next.2 next.4
 
 -- no weight up to a place further on
 pub weighed_on : (w : ℕ → ℕ) (f : ℕ → ℤ) (from to : ℕ) (sum : ℤ) → from ≤ to → ((k : ℕ) → from ≤ k → k < to → w k ≡ 0)
@@ -57,32 +63,40 @@ pub next_cell : (w : ℕ → ℕ) (count : ℕ) (cells : List Cell) → IsRow co
     IsNext w count (after_cells 0 cells i) (Some (x.column, x.weight)) × (after_cells 0 cells (i + 1) ≡ x.column + 1)
 next_cell w count cells row i l = sparse_some w count cells row i _ (slice_get-get_or cells i _ l)
 
--- ---- what the weights from a place on sum to
--- while some is left, there is a cell more
-pub more_cells : (w : ℕ → ℕ) (count scale : ℕ) (cells : List Cell) → IsRow count w cells → total_below (λ i. pos (w i)) count ≡ pos scale
-    → (i left : ℕ) → after_cells 0 cells i ≤ count → total_below (λ k. pos (w k)) (after_cells 0 cells i) +ℤ pos left ≡ pos scale → 0 < left
-    → i < length cells
-more_cells w count scale cells row all i left within is some = go (cases_lt i (length cells))
-  where
-    go : (i < length cells) ⊎ (length cells ≤ i) → i < length cells
-    go (inl less) = less
-    go (inr past) =
-        let none = sparse_none w count cells row i (slice_get_past cells i past) in
-        let same = gap (λ k. pos (w k)) (after_cells 0 cells i) count within (λ k kl kh. ap pos (none k kl kh)) in
-        absurd (omega (arith, linear, is, all, same, some))
+module _ (w : ℕ → ℕ) (count : ℕ) (scale : ℕ) where
+  -- ---- what the weights from a place on sum to
+  -- while some is left, there is a cell more
+  pub more_cells : (cells : List Cell) → IsRow count w cells → total_below (λ i. pos (w i)) count ≡ pos scale
+      → (i left : ℕ) → after_cells 0 cells i ≤ count → total_below (λ k. pos (w k)) (after_cells 0 cells i) +ℤ pos left ≡ pos scale
+      → 0 < left
+      → i < length cells
+  more_cells cells row all i left within is some = go (cases_lt i _)
+    where
+      go : (i < length cells) ⊎ (length cells ≤ i) → i < length cells
+      go (inl less) = less
+      go (inr past) =
+          let none = sparse_none w count cells row i (slice_get_past cells i past) in
+          absurd (omega (
+            arith,
+            linear,
+            is,
+            all,
+            (gap (λ k. pos (w k)) (after_cells 0 cells i) count within
+                (λ k kl kh. ap pos (none k kl kh))),
+            some,
+          ))
 
--- one weight less is left
-pub left_step : (w : ℕ → ℕ) (count scale : ℕ) → total_below (λ i. pos (w i)) count ≡ pos scale → (from i v left : ℕ) → from ≤ i → i < count
-    → v ≡ w i → ((k : ℕ) → from ≤ k → k < i → w k ≡ 0) → total_below (λ k. pos (w k)) from +ℤ pos left ≡ pos scale
-    → (v ≤ left) × (total_below (λ k. pos (w k)) (i + 1) +ℤ pos (left - v) ≡ pos scale)
-left_step w count scale all from i v left fl il vi none is =
-    let same = gap (λ k. pos (w k)) from i fl (λ k kl kh. ap pos (none k kl kh)) in
-    let upto = sum_below_upto w (suc i) count il in
-    let enough : v ≤ left = omega (arith, linear, same, upto, all, is, vi) in
-    (enough, rw add-one (omega (arith, linear, same, is, vi, enough)))
+  -- one weight less is left
+  pub left_step : total_below (λ i. pos (w i)) count ≡ pos scale → (from i v left : ℕ) → from ≤ i → i < count
+      → v ≡ w i → ((k : ℕ) → from ≤ k → k < i → w k ≡ 0) → total_below (λ k. pos (w k)) from +ℤ pos left ≡ pos scale
+      → (v ≤ left) × (total_below (λ k. pos (w k)) (i + 1) +ℤ pos (left - v) ≡ pos scale)
+  left_step all from i v left fl il vi none is =
+      let same = gap (λ k. pos (w k)) from i fl (λ k kl kh. ap pos (none k kl kh)) in
+      let enough : v ≤ left = omega (arith, linear, same, (sum_below_upto w (suc i) count il), all, is, vi) in
+      (enough, rw add-one (omega (arith, linear, same, is, vi, enough)))
 
--- if nothing is left, no weight is
-pub nothing_left : (w : ℕ → ℕ) (count scale : ℕ) → total_below (λ i. pos (w i)) count ≡ pos scale → (from : ℕ)
-    → total_below (λ k. pos (w k)) from +ℤ pos 0 ≡ pos scale → (k : ℕ) → from ≤ k → k < count → w k ≡ 0
-nothing_left w count scale all from is k fl kl =
-    omega (arith, linear, all, is, sum_below_upto w from k fl, sum_below_upto w (suc k) count kl)
+  -- if nothing is left, no weight is
+  pub nothing_left : total_below (λ i. pos (w i)) count ≡ pos scale → (from : ℕ)
+      → total_below (λ k. pos (w k)) from +ℤ pos 0 ≡ pos scale → (k : ℕ) → from ≤ k → k < count → w k ≡ 0
+  nothing_left all from is k fl kl =
+      omega (arith, linear, all, is, sum_below_upto w from k fl, sum_below_upto w (suc k) count kl)

@@ -1,5 +1,6 @@
+use Rattle.polcert_check.proofs.Common.{AboveVerdict, input_controller, Controller}
 use Rattle.std.proofs.Common.{sym, subst}
-use Rattle.polcert_check.proofs.Common.{value_of, AboveVerdict, input_controller, Controller, controller_of, MeetsHorizon, IsVerdict}
+use Rattle.polcert_check.proofs.Common.{value_of, controller_of, MeetsHorizon, IsVerdict}
 use Rattle.polcert_check.proofs.Common.{NamesSmallAmount, IsAboveVerdict, MeetsHorizonAbove, NamesSmallAmountAbove, mirrored, IsController}
 use Rattle.polcert_check.proofs.Walking.Answering.{surveyed}
 use Rattle.polcert_check.proofs.Mirrors.FromAbove.{verdict_above, horizon_above, small_above}

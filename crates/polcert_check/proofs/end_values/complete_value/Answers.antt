@@ -1,5 +1,7 @@
-use Rattle.std.proofs.Common.{rules, ◌≡◌, refl, subst}
-use Rattle.polcert_check.proofs.Common.{Row, Scaled, IsRowOf, Controller, node_controller}
+use Rattle.std.proofs.Common.{◌≡◌}
+use Rattle.polcert_check.proofs.Common.{Scaled, Controller}
+use Rattle.std.proofs.Common.{rules, refl, subst}
+use Rattle.polcert_check.proofs.Common.{Row, IsRowOf, node_controller}
 use Rattle.polcert_check.proofs.end_values.complete_value.Goals as goal
 
 pub complete_value_of_numbers-requires-clause-row : goal.complete_value_of_numbers-requires-clause-row

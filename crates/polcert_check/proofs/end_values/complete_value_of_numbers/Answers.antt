@@ -1,6 +1,7 @@
+use Rattle.polcert_check.proofs.Common.{Controller}
 use Rattle.std.proofs.Common.{rules, arith, ◌≡◌, ◌∙◌, ◌<◌, ◌≤◌, ◌^◌, ℕ, ℤ, pos, ◌*ℤ◌, Option, Some, None, false, refl, slice_index, to_z}
 use Rattle.std.proofs.Common.{sym, ap}
-use Rattle.polcert_check.proofs.Common.{w128, Controller, node_controller, most_sum, factored_value_at_end}
+use Rattle.polcert_check.proofs.Common.{w128, node_controller, most_sum, factored_value_at_end}
 use Rattle.std.specs.Option.{is_some}
 use Rattle.std.proofs.lemmas.Int.{to_z-of_z}
 use Rattle.polcert_check.specs.Steps.Products.{number_term}
@@ -45,31 +46,30 @@ loop-z-preserved g c =
 
 pub weigh-requires-clause-product : goal.weigh-requires-clause-product
 weigh-requires-clause-product g c =
-    let k : Controller = node_controller c.args.node.now in
-    let limits = g.met.C.Cells.is_within_limits c.args.node.now.input.cells.now in
+    let k = node_controller c.args.node.now in
+    let limits = g.met.C.Cells.is_within_limits _ in
     let n = c.args.node.now.n in
     let within : c.loop-z.z ≤ k.cells.observations = omega
     (arith, c.loop-z.auto.z-end, c.min-count.ensures, c.observations-observations.ensures) in
-    let is : pos c.args.scale *ℤ to_z w128 c.loop-z.sum-bits ≡ factored_value_at_end k n c.args.e =
-    ap (λ (x : ℤ). pos c.args.scale *ℤ x) c.loop-z.invariant.sum
-    ∙ scaled_value k n c.args.e c.args.scale c.args.numbers.now c.requires.row c.loop-z.z within
-    (λ less. omega (arith, less, c.loop-z-test.false, c.min-count.ensures, c.observations-observations.ensures)) in
     let le = value_at_end_le k c.args.node.now.input.proper c.args.node.now.input.values n c.args.e c.args.node.now.within c.requires.end in
-    scaled_room c.args.scale (to_z w128 c.loop-z.sum-bits) (factored_value_at_end k n c.args.e) most_sum is
+    scaled_room c.args.scale (to_z w128 c.loop-z.sum-bits) (factored_value_at_end k n c.args.e) most_sum
+    (ap (λ (x : ℤ). pos c.args.scale *ℤ x) c.loop-z.invariant.sum
+    ∙ scaled_value k n c.args.e c.args.scale c.args.numbers.now c.requires.row c.loop-z.z within
+    (λ less. omega (arith, less, c.loop-z-test.false, c.min-count.ensures, c.observations-observations.ensures)))
     (omega (arith, le, after_room k.cells limits))
 
 pub returns : goal.returns
 returns g c =
-    let k : Controller = node_controller c.args.node.now in
+    let k = node_controller c.args.node.now in
     let n = c.args.node.now.n in
     let within : c.loop-z.z ≤ k.cells.observations = omega
     (arith, c.loop-z.auto.z-end, c.min-count.ensures, c.observations-observations.ensures) in
-    let is : pos c.args.scale *ℤ to_z w128 c.loop-z.sum-bits ≡ factored_value_at_end k n c.args.e =
-    ap (λ (x : ℤ). pos c.args.scale *ℤ x) c.loop-z.invariant.sum
-    ∙ scaled_value k n c.args.e c.args.scale c.args.numbers.now c.requires.row c.loop-z.z within
+    let is =
+    ap (λ x. pos c.args.scale *ℤ x) c.loop-z.invariant.sum
+    ∙ scaled_value k n _ _ c.args.numbers.now c.requires.row c.loop-z.z within
     (λ less. omega (arith, less, c.loop-z-test.false, c.min-count.ensures, c.observations-observations.ensures)) in
     record {
-      value = to_z-of_z w128 c.weigh.result (search rules) ∙ c.weigh.ensures ∙ is;
+      value = to_z-of_z w128 _ (search rules) ∙ c.weigh.ensures ∙ is;
       missing = none_at_all k n c.args.e c.args.scale c.args.numbers.now c.requires.row c.loop-z.z
           (λ less. omega (arith, less, c.loop-z-test.false, c.min-count.ensures, c.observations-observations.ensures))
           c.loop-z.invariant.none;

@@ -2,7 +2,7 @@ use Rattle.std.proofs.Common.{rules}
 use Rattle.polcert_check.proofs.end_values.next_end.Goals as goal
 
 pub returns-in-Some : goal.returns-in-Some
-returns-in-Some g c = rw c.in-Some.is (c.step.ensures _ _ (c.requires.row c.in-Some.row c.in-Some.is))
+returns-in-Some g c = rw c.in-Some.is (c.step.ensures _ _ (c.requires.row _ c.in-Some.is))
 
 pub returns-in-None : goal.returns-in-None
 returns-in-None g c = rw c.in-None.is (rw c.states.ensures at

@@ -1,4 +1,5 @@
-use Rattle.std.proofs.Common.{rules, arith, ◌≡◌, ◌∙◌, ◌*◌, ◌^◌, ◌<◌, ◌≤◌, ℤ, pos, ◌*ℤ◌, unsigned_abs, FitsSigned, w64, refl, ap}
+use Rattle.std.proofs.Common.{◌*◌, ◌≤◌}
+use Rattle.std.proofs.Common.{rules, arith, ◌≡◌, ◌∙◌, ◌^◌, ◌<◌, ℤ, pos, ◌*ℤ◌, unsigned_abs, FitsSigned, w64, refl, ap}
 use Rattle.polcert_check.proofs.Common.{w128, unsigned_abs-mul}
 use Rattle.std.proofs.lemmas.Int.{to_z-of_z}
 use Rattle.polcert_check.proofs.Sums.Bounds.{fits_128}

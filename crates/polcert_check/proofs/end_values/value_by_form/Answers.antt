@@ -1,6 +1,8 @@
-use Rattle.std.proofs.Common.{rules, ◌≡◌, subst}
-use Rattle.polcert_check.proofs.Common.{Row, IsRowOf, Controller, node_controller}
+use Rattle.std.proofs.Common.{◌≡◌}
+use Rattle.polcert_check.proofs.Common.{Controller}
 use Rattle.polcert_cells.specs.declared.cells.Row.TheVariants.{Sparse}
+use Rattle.std.proofs.Common.{rules, subst}
+use Rattle.polcert_check.proofs.Common.{Row, IsRowOf, node_controller}
 use Rattle.polcert_check.proofs.end_values.value_by_form.Goals as goal
 
 pub value_of_cells-requires-clause-row : goal.value_of_cells-requires-clause-row

@@ -1,4 +1,5 @@
-use Rattle.std.proofs.Common.{rules, arith, refl, ◌≡◌, ◌∙◌, ap, to_z, of_z, w64}
+use Rattle.std.proofs.Common.{of_z}
+use Rattle.std.proofs.Common.{rules, arith, refl, ◌∙◌, ap, to_z, w64}
 use Rattle.polcert_check.proofs.Common.{w128}
 use Rattle.std.proofs.lemmas.Int.{to_z-of_z}
 use Rattle.polcert_check.proofs.Sums.Gaps.{weighed_is}
@@ -41,6 +42,6 @@ loop-i-preserved g c = λ w r count b are.
 
 pub returns : goal.returns
 returns g c = λ w r count b are.
-    let all : c.loop-i.i ≡ c.args.common.exceptions = omega (arith, c.loop-i-test.false, c.loop-i.auto.i-end) in
-    c.loop-i.invariant w r count b are ∙ ap (sum_until w r count c.args.scale c.args.common c.args.exceptions.now) all
+    c.loop-i.invariant w r count b are ∙ ap (sum_until w r count c.args.scale c.args.common c.args.exceptions.now)
+    (omega (arith, c.loop-i-test.false, c.loop-i.auto.i-end))
     ∙ sum_until_all _ _ _ _ _ _ _ _ are

@@ -5,7 +5,7 @@ use Rattle.polcert_check.proofs.expected_reward.sum_over_observations.Goals as g
 
 pub weigh-sum-requires-clause-weight : goal.weigh-sum-requires-clause-weight
 weigh-sum-requires-clause-weight g c = weight_small
-    (seen_weighed _ (g.met.C.Cells.is_proper c.args.cells.now) (g.met.C.Cells.is_within_limits c.args.cells.now) _ _ c.requires.action
+    (seen_weighed _ (g.met.C.Cells.is_proper _) (g.met.C.Cells.is_within_limits _) _ _ c.requires.action
     c.requires.end) _ _ c.in-Some.ensures.0.1 c.in-Some.ensures.0.2
 
 pub weigh-sum-requires-clause-product : goal.weigh-sum-requires-clause-product
@@ -14,18 +14,18 @@ weigh-sum-requires-clause-product g c = grind (arith, to_z, of_z, to_z-of_z, see
 pub overflow_add-sum : goal.overflow_add-sum
 overflow_add-sum g c =
     let next = c.in-Some.ensures.0 in
-    (weighed_step (seen_weighed _ (g.met.C.Cells.is_proper c.args.cells.now) (g.met.C.Cells.is_within_limits c.args.cells.now) _ _
-    c.requires.action c.requires.end) _ (λ z zl. (g.met.C.Cells.is_within_limits _).r _ _ _ z c.requires.action c.requires.start
-    c.requires.end zl) _ _ _ _ _ _ next.0 next.1 next.2 next.4 c.loop-observation.invariant.sum (search rules) (search rules)
+    (weighed_step (seen_weighed _ (g.met.C.Cells.is_proper _) (g.met.C.Cells.is_within_limits _) _ _
+    c.requires.action c.requires.end) _ (λ z. (g.met.C.Cells.is_within_limits _).r _ _ _ z c.requires.action c.requires.start
+    c.requires.end) _ _ _ _ _ _ next.0 next.1 next.2 next.4 c.loop-observation.invariant.sum (search rules) (search rules)
     c.weigh-sum.ensures (to_z-of_z w64 _ (search rules) ∙ (c.requires.reward _ _ next.1 c.reward_of-reward.ensures))).0
 
 pub loop-observation-preserved : goal.loop-observation-preserved
 loop-observation-preserved g c =
     let next = c.in-Some.ensures.0 in
     rw c.in-Some.ensures.1 (record {
-      sum = (weighed_step (seen_weighed _ (g.met.C.Cells.is_proper c.args.cells.now) (g.met.C.Cells.is_within_limits c.args.cells.now) _ _
-          c.requires.action c.requires.end) _ (λ z zl. (g.met.C.Cells.is_within_limits _).r _ _ _ z c.requires.action c.requires.start
-          c.requires.end zl) _ _ _ _ _ _ next.0 next.1 next.2 next.4 c.loop-observation.invariant.sum (search rules) (search rules)
+      sum = (weighed_step (seen_weighed _ (g.met.C.Cells.is_proper _) (g.met.C.Cells.is_within_limits _) _ _
+          c.requires.action c.requires.end) _ (λ z. (g.met.C.Cells.is_within_limits _).r _ _ _ z c.requires.action c.requires.start
+          c.requires.end) _ _ _ _ _ _ next.0 next.1 next.2 next.4 c.loop-observation.invariant.sum (search rules) (search rules)
           c.weigh-sum.ensures (to_z-of_z w64 _ (search rules) ∙ (c.requires.reward _ _ next.1 c.reward_of-reward.ensures))).1;
       within = omega (arith, c.in-Some.ensures.0.1);
     })

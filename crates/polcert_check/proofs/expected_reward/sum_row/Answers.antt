@@ -1,6 +1,8 @@
-use Rattle.std.proofs.Common.{arith, rules, ◌≡◌, ◌∙◌, ◌*◌, to_z, of_z}
+use Rattle.std.proofs.Common.{◌≡◌, to_z, of_z}
+use Rattle.polcert_check.proofs.Common.{CellTable, factored_reward}
+use Rattle.std.proofs.Common.{arith, rules, ◌∙◌, ◌*◌}
 use Rattle.std.proofs.lemmas.Int.{to_z-of_z}
-use Rattle.polcert_check.proofs.Common.{row_reward, w128, CellTable, largest, factored_reward, row_weight}
+use Rattle.polcert_check.proofs.Common.{row_reward, w128, largest, row_weight}
 use Rattle.polcert_check.proofs.Sums.Scales.{scales_le}
 use Rattle.polcert_check.proofs.Walking.RowOfBoth.{row_excepted, row_total}
 use Rattle.polcert_check.proofs.expected_reward.sum_row.Goals as goal
@@ -11,12 +13,12 @@ overflow_mul-scale g c = rw (c.t_scale.ensures, c.o_scale.ensures)
 
 pub sum_excepted-requires-clause-rewards : goal.sum_excepted-requires-clause-rewards
 sum_excepted-requires-clause-rewards g c =
-    let m : CellTable = g.C.Cells.table c.args.cells.now in (
+    let m = g.C.Cells.table _ in (
       row_weight m c.args.a c.args.s,
       row_reward m c.args.a c.args.s,
       m.states * m.observations,
       2 * largest,
-      row_excepted m (g.met.C.Cells.is_proper c.args.cells.now) (g.met.C.Cells.is_within_limits c.args.cells.now) c.args.a c.args.s
+      row_excepted m (g.met.C.Cells.is_proper _) (g.met.C.Cells.is_within_limits _) c.args.a c.args.s
           c.requires.action c.requires.start _ _ _ _
           (λ k weight l post. search rules) (search rules) (search rules) (search rules),
     )

@@ -9,4 +9,4 @@ pub returns : goal.returns
 returns c = λ x graph high proper limits known fits_high above less low fits_low below n s nl sl.
     let both = scales x limits in
     never_above (controller_of x graph high) (controller_is x graph high fits_high proper known) above (value_of low) below less
-    (positive_product x.t_scale x.o_scale both.0 both.1) n s nl sl
+    (positive_product _ _ both.0 both.1) n s nl sl

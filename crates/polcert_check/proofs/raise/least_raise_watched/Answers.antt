@@ -1,6 +1,8 @@
-use Rattle.std.proofs.Common.{◌≡◌, rules, subst, to_z, of_z, w64}
+use Rattle.std.proofs.Common.{◌≡◌, to_z, of_z}
+use Rattle.polcert_check.proofs.Common.{Controller}
+use Rattle.std.proofs.Common.{rules, subst, w64}
 use Rattle.std.proofs.lemmas.Int.{to_z-of_z}
-use Rattle.polcert_check.proofs.Common.{Controller, controller_of, CanMove, IsLeastMove}
+use Rattle.polcert_check.proofs.Common.{controller_of, CanMove, IsLeastMove}
 use Rattle.polcert_check.proofs.Lowerings.Raising.{least_raise_is, not_raised_is, small_raise}
 use Rattle.polcert_check.proofs.raise.least_raise_watched.Goals as goal
 
@@ -20,7 +22,7 @@ returns-in-Ok g c =
 
 pub returns-in-Err : goal.returns-in-Err
 returns-in-Err g c =
-    let k : Controller = controller_of (g.C.Cells.table c.args.cells.now) c.args.graph.now c.args.vectors.now in
+    let k = controller_of (g.C.Cells.table _) c.args.graph.now c.args.vectors.now in
     let of = c.new-input.ensures in
     record {
       least = search rules;

@@ -1,4 +1,5 @@
-use Rattle.std.proofs.Common.{ℤ, ◌+ℤ◌, ◌∙◌, ap, rules, w64}
+use Rattle.std.proofs.Common.{ℤ}
+use Rattle.std.proofs.Common.{◌+ℤ◌, ◌∙◌, ap, rules, w64}
 use Rattle.std.proofs.lemmas.Int.{to_z-of_z}
 use Rattle.polcert_check.proofs.Common.{value_of}
 use Rattle.polcert_check.proofs.Certificates.{controller_is}

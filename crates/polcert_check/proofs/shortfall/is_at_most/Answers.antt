@@ -9,9 +9,8 @@ overflow_mul-result c = rw (to_z-of_z w64 c.args.number c.ranges.number, to_z-of
 
 pub returns : goal.returns
 returns c test =
-    let number = to_z-of_z w64 c.args.number c.ranges.number in
-    let other = to_z-of_z w64 c.args.other c.ranges.other in
-    let weight = to_z-of_z w64 c.from.result (search rules) ∙ c.from.ensures in
-    let other_weight = to_z-of_z w64 c.from-2.result (search rules) ∙ c.from-2.ensures in
+    let number = to_z-of_z w64 _ c.ranges.number in
+    let other = to_z-of_z w64 _ c.ranges.other in
+    let weight = to_z-of_z w64 _ (search rules) ∙ c.from.ensures in
     product_le c.args.weight c.args.other_weight c.args.number c.args.other c.requires.weight c.requires.other_weight c.requires.number
-    c.requires.other (rw (weight, number, other_weight, other) at test)
+    c.requires.other (rw (weight, number, (to_z-of_z w64 c.from-2.result (search rules) ∙ c.from-2.ensures), other) at test)

@@ -1,4 +1,4 @@
-use Rattle.std.proofs.Common.{◌≡◌, ◌∙◌, ℕ, ◌*◌, ◌≤◌, ℤ, pos, negsuc, ◌<ℤ◌, unsigned_abs, arith, refl, ap, subst, rules, to_z, of_z, w64}
+use Rattle.std.proofs.Common.{◌≡◌, ◌∙◌, ℕ, ◌*◌, ◌≤◌, ℤ, pos, negsuc, ◌<ℤ◌, unsigned_abs, arith, refl, ap, subst, rules, w64}
 use Rattle.std.proofs.Common.{to_z-of_z, FitsSigned}
 use Rattle.std.specs.Int.{w128}
 use Rattle.polcert_check.proofs.Common.{ints, largest, one, IsCeilQuotient}
@@ -33,6 +33,5 @@ returns g c =
     let fits : FitsSigned w128 c.args.amount = search rules in
     let same = c.unsigned_abs.ensures.value ∙ ap unsigned_abs (to_z-of_z {w = w128} fits) in
     let narrow_fits : FitsSigned w64 c.small_quotient.result = search rules in
-    let narrow : to_z w64 (of_z w64 c.small_quotient.result) ≡ c.small_quotient.result = to_z-of_z {w = w64} narrow_fits in
-    rw narrow (quotient c.args.amount _ _ c.small_quotient.result c.requires.short
+    rw (to_z-of_z {w = w64} narrow_fits) (quotient c.args.amount _ _ c.small_quotient.result c.requires.short
     (rw (same, c.t_scale.ensures, c.o_scale.ensures) at c.small_quotient.ensures))

@@ -8,7 +8,7 @@ overflow_mul-step_scale g c = grind (arith, scales_le)
 
 pub shortfall_of-requires-clause-scale : goal.shortfall_of-requires-clause-scale
 shortfall_of-requires-clause-scale g c = rw (c.t_scale.ensures, c.o_scale.ensures)
-    (scales_le (g.C.Cells.table c.args.cells.now) (g.met.C.Cells.is_within_limits c.args.cells.now))
+    (scales_le (g.C.Cells.table _) (g.met.C.Cells.is_within_limits _))
 
 pub shortfall_of-requires-clause-reward : goal.shortfall_of-requires-clause-reward
 shortfall_of-requires-clause-reward g c = grind (arith, to_z, of_z, to_z-of_z, sum_room)

@@ -1,4 +1,4 @@
-use Rattle.std.proofs.Common.{rules, ◌≡◌, pos, ◌*ℤ◌, to_z, of_z, w64, refl}
+use Rattle.std.proofs.Common.{rules, to_z, of_z, w64, refl}
 use Rattle.std.proofs.lemmas.Int.{to_z-of_z}
 use Rattle.polcert_check.proofs.Sums.Amounts.{amount_from}
 use Rattle.polcert_check.proofs.Sums.Gaps.{weighed_is}
@@ -6,9 +6,6 @@ use Rattle.polcert_check.proofs.shortfall.shortfall_of.Goals as goal
 
 pub overflow_sub-result : goal.overflow_sub-result
 overflow_sub-result c =
-    let at_scale : c.weigh-at_scale.result ≡ pos c.args.step_scale *ℤ c.args.value =
-    weighed_is c.args.step_scale c.args.step_scale c.weigh-at_scale.result (to_z w64 (of_z w64 c.args.value)) c.args.value (search rules)
-    c.weigh-at_scale.ensures refl (to_z-of_z w64 c.args.value c.ranges.value) in
     let scaled = weighed_is 1000000 1000000 c.weigh-scaled.result c.weigh-at_scale.result c.weigh-at_scale.result (search rules)
     c.weigh-scaled.ensures refl refl in
     let earned = weighed_is 1000000 1000000 c.weigh-earned.result c.args.reward c.args.reward c.ranges.reward c.weigh-earned.ensures refl
@@ -16,13 +13,12 @@ overflow_sub-result c =
     let later = weighed_is c.from.result c.args.discount c.weigh-later.result c.args.expected c.args.expected c.ranges.expected
     c.weigh-later.ensures c.from.ensures refl in
     (amount_from c.args.step_scale c.args.discount c.args.value c.args.reward c.args.expected _ _ _ _ c.requires.scale c.requires.discount
-    c.requires.value c.requires.reward c.requires.expected (search rules) (search rules) (search rules) at_scale scaled earned later).0
+    c.requires.value c.requires.reward c.requires.expected (search rules) (search rules) (search rules)
+    (weighed_is c.args.step_scale c.args.step_scale c.weigh-at_scale.result (to_z w64 (of_z w64 c.args.value)) c.args.value (search rules)
+    c.weigh-at_scale.ensures refl (to_z-of_z w64 c.args.value c.ranges.value)) scaled earned later).0
 
 pub returns : goal.returns
 returns c =
-    let at_scale : c.weigh-at_scale.result ≡ pos c.args.step_scale *ℤ c.args.value =
-    weighed_is c.args.step_scale c.args.step_scale c.weigh-at_scale.result (to_z w64 (of_z w64 c.args.value)) c.args.value (search rules)
-    c.weigh-at_scale.ensures refl (to_z-of_z w64 c.args.value c.ranges.value) in
     let scaled = weighed_is 1000000 1000000 c.weigh-scaled.result c.weigh-at_scale.result c.weigh-at_scale.result (search rules)
     c.weigh-scaled.ensures refl refl in
     let earned = weighed_is 1000000 1000000 c.weigh-earned.result c.args.reward c.args.reward c.ranges.reward c.weigh-earned.ensures refl
@@ -30,4 +26,6 @@ returns c =
     let later = weighed_is c.from.result c.args.discount c.weigh-later.result c.args.expected c.args.expected c.ranges.expected
     c.weigh-later.ensures c.from.ensures refl in
     (amount_from c.args.step_scale c.args.discount c.args.value c.args.reward c.args.expected _ _ _ _ c.requires.scale c.requires.discount
-    c.requires.value c.requires.reward c.requires.expected (search rules) (search rules) (search rules) at_scale scaled earned later).1
+    c.requires.value c.requires.reward c.requires.expected (search rules) (search rules) (search rules)
+    (weighed_is c.args.step_scale c.args.step_scale c.weigh-at_scale.result (to_z w64 (of_z w64 c.args.value)) c.args.value (search rules)
+    c.weigh-at_scale.ensures refl (to_z-of_z w64 c.args.value c.ranges.value)) scaled earned later).1

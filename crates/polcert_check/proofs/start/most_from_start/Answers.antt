@@ -1,5 +1,6 @@
+use Rattle.polcert_check.proofs.Common.{Meaning}
 use Rattle.std.proofs.Common.{◌∙◌, rules, w64}
-use Rattle.polcert_check.proofs.Common.{w128, meaning, Meaning}
+use Rattle.polcert_check.proofs.Common.{w128, meaning}
 use Rattle.std.proofs.lemmas.Int.{to_z-of_z}
 use Rattle.polcert_check.proofs.start.most_from_start.Goals as goal
 

@@ -1,5 +1,4 @@
 use Rattle.std.proofs.Common.{rules, arith}
-use Rattle.polcert_check.proofs.Common.{checked_controller}
 use Rattle.polcert_check.proofs.Walking.Walked.{pair_passed}
 use Rattle.polcert_check.proofs.survey.first_failure.Goals as goal
 
@@ -17,5 +16,5 @@ returns-then-reward-clause-passed g c = λ f is. rw c.unknown.ensures.state (c.p
 
 pub returns-then-state-states-clause-passed : goal.returns-then-state-states-clause-passed
 returns-then-state-states-clause-passed g c = λ f is.
-    rw c.unknown-then-state-states.ensures.state (pair_passed (checked_controller c.args.node.now.input) c.args.node.now.n c.pairs.state f
+    rw c.unknown-then-state-states.ensures.state (pair_passed _ _ _ f
     (c.args.node.now.within, c.pairs.invariant.within) (rw c.in-Yes.is at c.pair_verdict-verdict.ensures) (c.pairs.invariant.passed f is))

@@ -1,6 +1,5 @@
 use Rattle.std.proofs.Common.{arith, ◌+◌, ◌∙◌, sym, ap, subst, rules}
-use Rattle.polcert_check.proofs.Common.{checked_controller, IsFoundBefore, node_controller, AreEndValues, Controller, Findings}
-use Rattle.polcert_check.specs.declared.ends.EndValues.{EndValues}
+use Rattle.polcert_check.proofs.Common.{checked_controller, IsFoundBefore, node_controller, AreEndValues}
 use Rattle.polcert_check.proofs.Walking.Walked.{node_done, node_settled}
 use Rattle.polcert_check.proofs.survey.survey_node.Goals as goal
 
@@ -9,9 +8,9 @@ returns-then-is_settled-clause-found g c = grind (arith, node_settled)
 
 pub pairs-preserved-then-s-states : goal.pairs-preserved-then-s-states
 pairs-preserved-then-s-states g c =
-    let j : Controller = checked_controller c.args.node.now.input in
+    let j = checked_controller c.args.node.now.input in
     let s = c.first_failure-failure.result.state in
-    let passed = subst (λ (f : Findings). IsFoundBefore j (j.action c.args.node.now.n) c.args.node.now.n s f)
+    let passed = subst (λ f. IsFoundBefore j (j.action c.args.node.now.n) c.args.node.now.n s f)
     (sym c.verdict_at-verdict.ensures.findings) (c.first_failure-failure.ensures.passed c.pairs.survey.findings c.pairs.invariant.found)
     in
     record {
@@ -21,11 +20,11 @@ pairs-preserved-then-s-states g c =
             c.verdict_at-verdict.ensures.prepared.marks;
         same = c.verdict_at-verdict.ensures.prepared.same;
       };
-      ends = subst (λ (ends : EndValues). AreEndValues (node_controller c.args.node.now) c.args.node.now.n
+      ends = subst (λ ends. AreEndValues (node_controller c.args.node.now) c.args.node.now.n
           (node_controller c.args.node.now).cells.states ends) (sym c.verdict_at-verdict.ensures.ends) c.pairs.invariant.ends;
       found = c.note.ensures.found j s (c.args.node.now.within, omega (arith, c.if-s-states.true, c.states-states.ensures))
           c.verdict_at-verdict.ensures.verdict passed;
-      mode = c.note.ensures.mode ∙ ap (λ (f : Findings). f.mode) c.verdict_at-verdict.ensures.findings ∙ c.pairs.invariant.mode;
+      mode = c.note.ensures.mode ∙ ap (λ f. f.mode) c.verdict_at-verdict.ensures.findings ∙ c.pairs.invariant.mode;
     }
 
 pub pairs-preserved : goal.pairs-preserved
@@ -38,9 +37,9 @@ pairs-preserved g c = record {
 
 pub returns-then-note-clause-found : goal.returns-then-note-clause-found
 returns-then-note-clause-found g c =
-    let j : Controller = checked_controller c.args.node.now.input in
+    let j = checked_controller c.args.node.now.input in
     let s = c.first_failure-failure.result.state in
-    let passed = subst (λ (f : Findings). IsFoundBefore j (j.action c.args.node.now.n) c.args.node.now.n s f)
+    let passed = subst (λ f. IsFoundBefore j (j.action c.args.node.now.n) c.args.node.now.n s f)
     (sym c.verdict_at-verdict.ensures.findings) (c.first_failure-failure.ensures.passed c.pairs.survey.findings c.pairs.invariant.found)
     in
     node_settled j c.args.node.now.n (s + 1) c.note.new.self

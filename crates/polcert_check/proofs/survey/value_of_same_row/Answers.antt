@@ -5,6 +5,5 @@ use Rattle.polcert_check.proofs.survey.value_of_same_row.Goals as goal
 
 pub returns : goal.returns
 returns g c =
-    let same = c.requires.same in
     expected_same (node_controller c.args.node.now) c.args.node.now.n c.args.other c.args.s c.args.value
-    (λ e el. same c.args.other e c.requires.other el ∙ sym (same c.args.s e c.requires.start el)) c.requires.value
+    (λ e el. c.requires.same c.args.other e c.requires.other el ∙ sym (c.requires.same c.args.s e c.requires.start el)) c.requires.value

@@ -9,7 +9,7 @@ overflow_mul-step_scale g c = grind (arith, scales_le)
 pub invariant_of-result : goal.invariant_of-result
 invariant_of-result g c = record {
   fits = c.requires;
-  proper = controller_is _ _ _ c.requires (g.met.C.Cells.is_proper c.args.cells.now) c.nodes-nodes.ensures.proper;
+  proper = controller_is _ _ _ c.requires (g.met.C.Cells.is_proper _) c.nodes-nodes.ensures.proper;
   values = values_are_within _ _ _ c.requires c.nodes-vector_count.ensures.proper;
   is_proper_graph = c.nodes-nodes.ensures.proper;
   are_proper = c.nodes-vector_count.ensures.proper;

@@ -1,6 +1,8 @@
-use Rattle.std.proofs.Common.{rules, ◌≡◌, refl, subst}
-use Rattle.polcert_check.proofs.Common.{Row, Scaled, IsRowOf, Controller, node_controller}
+use Rattle.std.proofs.Common.{◌≡◌}
+use Rattle.polcert_check.proofs.Common.{Scaled, Controller}
 use Rattle.polcert_cells.specs.declared.cells.Row.TheVariants.{Even}
+use Rattle.std.proofs.Common.{rules, refl, subst}
+use Rattle.polcert_check.proofs.Common.{Row, IsRowOf, node_controller}
 use Rattle.polcert_check.proofs.ends.EndValues.narrow_value.Goals as goal
 
 pub value_of_numbers-requires-clause-row : goal.value_of_numbers-requires-clause-row

@@ -1,4 +1,5 @@
-use Rattle.std.proofs.Common.{rules, arith, ◌≡◌, ◌<◌, length, to_z, of_z, w64}
+use Rattle.std.proofs.Common.{◌≡◌}
+use Rattle.std.proofs.Common.{rules, arith, ◌<◌, length, to_z, of_z, w64}
 use Rattle.std.proofs.lemmas.Int.{to_z-of_z}
 use Rattle.polcert_check.proofs.Common.{w128, node_controller}
 use Rattle.polcert_check.proofs.Walking.EvenRows.{complete_more, total_step}

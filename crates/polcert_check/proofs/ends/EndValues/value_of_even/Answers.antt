@@ -1,7 +1,9 @@
-use Rattle.std.proofs.Common.{rules, ◌≡◌, ◌∙◌, to_z, of_z}
-use Rattle.std.proofs.lemmas.Int.{to_z-of_z}
-use Rattle.polcert_check.proofs.Common.{w128, Controller, node_controller}
+use Rattle.std.proofs.Common.{◌≡◌}
+use Rattle.polcert_check.proofs.Common.{Controller}
 use Rattle.polcert_check.specs.Steps.Products.{IsEvenSum}
+use Rattle.std.proofs.Common.{rules, ◌∙◌, to_z, of_z}
+use Rattle.std.proofs.lemmas.Int.{to_z-of_z}
+use Rattle.polcert_check.proofs.Common.{w128, node_controller}
 use Rattle.polcert_check.proofs.Walking.EvenRows.{even_sum, even_value}
 use Rattle.polcert_check.proofs.ends.EndValues.value_of_even.Goals as goal
 

@@ -1,5 +1,5 @@
-use Rattle.std.proofs.Common.{rules, arith, ◌≡◌, ◌∙◌, ◌<◌, ℕ, ℤ, pos, ◌*ℤ◌, slice_index_or, to_z, of_z, ap}
-use Rattle.polcert_check.proofs.Common.{w128, Controller, node_controller, most_sum, factored_value_at_end, factored_value}
+use Rattle.std.proofs.Common.{rules, arith, ◌≡◌, ◌∙◌, ℤ, pos, ◌*ℤ◌, slice_index_or, ap}
+use Rattle.polcert_check.proofs.Common.{w128, node_controller, most_sum, factored_value_at_end, factored_value}
 use Rattle.std.proofs.lemmas.Int.{to_z-of_z}
 use Rattle.polcert_check.proofs.Sums.Scales.{ahead_room}
 use Rattle.polcert_check.proofs.Walking.Expecting.{expected_value_le}
@@ -8,19 +8,17 @@ use Rattle.polcert_check.proofs.ends.EndValues.value_of_numbers.Goals as goal
 
 pub weigh-requires-clause-product : goal.weigh-requires-clause-product
 weigh-requires-clause-product g c =
-    let k : Controller = node_controller c.args.node.now in
-    let limits = g.met.C.Cells.is_within_limits c.args.node.now.input.cells.now in
+    let k = node_controller c.args.node.now in
+    let limits = g.met.C.Cells.is_within_limits _ in
     let n = c.args.node.now.n in
     let s = c.args.s in
     let sum = c.sum_of_products-sum.result in
-    let back : to_z w128 (of_z w128 sum) ≡ sum = to_z-of_z w128 sum (search rules) in
-    let narrow : (e : ℕ) → e < k.cells.states → 0 < k.cells.t (k.action n) s e
-    → slice_index_or c.args.self.now.narrow e (pos 0) ≡ factored_value_at_end k n e =
-    λ e l some. (c.requires.ends.narrow c.requires.narrow s e c.requires.start l some).value in
+    let back = to_z-of_z w128 sum (search rules) in
     let is : pos c.args.scale *ℤ sum ≡ factored_value k n s =
     ap (λ (x : ℤ). pos c.args.scale *ℤ x) c.sum_of_products-sum.ensures
     ∙ scaled_total (k.cells.t (k.action n) s) k.cells.states c.args.scale c.args.numbers.now c.requires.row
-    (λ e. slice_index_or c.args.self.now.narrow e (pos 0)) (factored_value_at_end k n) c.min-count.result narrow
+    (λ e. slice_index_or c.args.self.now.narrow e (pos 0)) (factored_value_at_end k n) c.min-count.result
+    (λ e l some. (c.requires.ends.narrow c.requires.narrow s e c.requires.start l some).value)
     (omega (arith, c.min-count.ensures, c.states.ensures)) (λ less. omega (arith, less, c.min-count.ensures, c.states.ensures)) in
     let le = expected_value_le k c.args.node.now.input.proper limits c.args.node.now.input.values n s c.args.node.now.within
     c.requires.start in
@@ -28,18 +26,16 @@ weigh-requires-clause-product g c =
 
 pub returns : goal.returns
 returns g c =
-    let k : Controller = node_controller c.args.node.now in
+    let k = node_controller c.args.node.now in
     let n = c.args.node.now.n in
     let s = c.args.s in
     let sum = c.sum_of_products-sum.result in
-    let back : to_z w128 (of_z w128 sum) ≡ sum = to_z-of_z w128 sum (search rules) in
-    let narrow : (e : ℕ) → e < k.cells.states → 0 < k.cells.t (k.action n) s e
-    → slice_index_or c.args.self.now.narrow e (pos 0) ≡ factored_value_at_end k n e =
-    λ e l some. (c.requires.ends.narrow c.requires.narrow s e c.requires.start l some).value in
+    let back = to_z-of_z w128 sum (search rules) in
     let is : pos c.args.scale *ℤ sum ≡ factored_value k n s =
     ap (λ (x : ℤ). pos c.args.scale *ℤ x) c.sum_of_products-sum.ensures
     ∙ scaled_total (k.cells.t (k.action n) s) k.cells.states c.args.scale c.args.numbers.now c.requires.row
-    (λ e. slice_index_or c.args.self.now.narrow e (pos 0)) (factored_value_at_end k n) c.min-count.result narrow
+    (λ e. slice_index_or c.args.self.now.narrow e (pos 0)) (factored_value_at_end k n) c.min-count.result
+    (λ e l some. (c.requires.ends.narrow c.requires.narrow s e c.requires.start l some).value)
     (omega (arith, c.min-count.ensures, c.states.ensures)) (λ less. omega (arith, less, c.min-count.ensures, c.states.ensures)) in
     record {
       value = to_z-of_z w128 c.weigh.result (search rules) ∙ c.weigh.ensures ∙ ap (λ (x : ℤ). pos c.args.scale *ℤ x) back ∙ is;

@@ -7,7 +7,7 @@ use Rattle.polcert_check.proofs.findings.Findings.keep.Goals as goal
 
 pub returns-in-Yes-clause-found : goal.returns-in-Yes-clause-found
 returns-in-Yes-clause-found c = λ k s pair checked_controller is.
-    pair_passed k c.args.n s c.args.self.now pair (rw c.in-Yes.is at checked_controller) is
+    pair_passed k _ s c.args.self.now pair (rw c.in-Yes.is at checked_controller) is
 
 pub returns-in-Check-clause-found : goal.returns-in-Check-clause-found
 returns-in-Check-clause-found c = grind (arith, noted_failure, next_pair)
