@@ -148,7 +148,7 @@ impl Side {
     }
 
     /// Returns the value as it is; from above its negative.
-    pub(crate) fn turned_value(self, value: i64) -> i64
+    pub(crate) fn signed_value(self, value: i64) -> i64
         requires { IsInRange value }
         ensures is { result ≡ signed_from self value }
         ensures in_range { IsInRange result }

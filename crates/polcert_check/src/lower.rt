@@ -33,7 +33,7 @@ fn stays_in_range(side: Side, vectors: &Vectors, by: u128) -> bool
 {
     for n in 0..vectors.nodes() {
         for s in 0..vectors.states() {
-            if !is_low_enough(side.turned_value(vectors.at(n, s)), by) {
+            if !is_low_enough(side.signed_value(vectors.at(n, s)), by) {
                 return false;
             }
         }

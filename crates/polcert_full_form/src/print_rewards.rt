@@ -162,13 +162,17 @@ fn write_block<W: Sink>(
         (for_each (length rewards.now) (block_text is_cost first rewards.now)) result out.new }
 {
     for number in 0..rewards.len() {
-        write_number_at(first + number, written(is_cost, rewards[number]), out)?;
+        write_number_at(
+            first + number,
+            written_reward(is_cost, rewards[number]),
+            out,
+        )?;
     }
     Ok(())
 }
 
 /// Returns what the text gives of a reward: minus the reward if it gives costs.
-fn written(is_cost: bool, reward: i64) -> i64
+fn written_reward(is_cost: bool, reward: i64) -> i64
     requires { unsigned_abs reward ≤ largest }
     ensures { result ≡ written is_cost reward }
 {

@@ -68,7 +68,7 @@ fn write_indices<W: Sink>(indices: &[usize], out: &mut W) -> Result<(), SinkFail
 fn write_index<W: Sink>(number: usize, index: usize, out: &mut W) -> Result<(), SinkFailed>
     ensures { WritesText W.writes W.failures out.old (mark_before number ++ decimal index) result out.new }
 {
-    write_all(out, in_place(number, b" ", b" : "))?;
+    write_all(out, text_at_place(number, b" ", b" : "))?;
     write_number(index, out)
 }
 
@@ -80,7 +80,7 @@ pub(crate) fn write_number_at<W: Sink>(
 ) -> Result<(), SinkFailed>
     ensures { WritesText W.writes W.failures out.old (number_text place scaled) result out.new }
 {
-    write_all(out, in_place(place, b"", b" "))?;
+    write_all(out, text_at_place(place, b"", b" "))?;
     write_scaled(scaled, out)
 }
 
@@ -94,13 +94,13 @@ pub(crate) fn write_zeros<W: Sink>(
     ensures { WritesText W.writes W.failures out.old (zeros_text first count) result out.new }
 {
     for number in 0..count {
-        write_all(out, in_place(first + number, b"0", b" 0"))?;
+        write_all(out, text_at_place(first + number, b"0", b" 0"))?;
     }
     Ok(())
 }
 
 /// Returns `first` in place 0 of a line, and `other` in the places after it.
-fn in_place(place: usize, first: &'static [u8], other: &'static [u8]) -> &'static [u8]
+fn text_at_place(place: usize, first: &'static [u8], other: &'static [u8]) -> &'static [u8]
     ensures { result.now ≡ if place == 0 then first.now else other.now }
 {
     if place == 0 { first } else { other }

@@ -30,7 +30,7 @@ ghost use Rattle.polcert_items.specs.declared.entry_reader.Word.{Word};
 
 use crate::item::FeedError;
 use crate::model_so_far::ModelSoFar;
-use crate::preamble_lines::{colon, element_of};
+use crate::preamble_lines::{element_of, take_colon};
 use crate::signed_number::{
     NumberStep, Range, Refusal, Sign, after_numbers, misplaced, number_step,
 };
@@ -190,7 +190,7 @@ impl EntryReader {
     {
         match &mut self.state {
             EntryState::Colon => {
-                colon(token)?;
+                take_colon(token)?;
                 self.state = EntryState::Place;
                 Ok(())
             }

@@ -46,7 +46,7 @@ impl DiscountReader {
     {
         match *self {
             DiscountReader::Colon => {
-                colon(token)?;
+                take_colon(token)?;
                 *self = DiscountReader::Number(None);
                 Ok(())
             }
@@ -90,7 +90,7 @@ impl ValuesReader {
     {
         match *self {
             ValuesReader::Colon => {
-                colon(token)?;
+                take_colon(token)?;
                 *self = ValuesReader::Word;
                 Ok(())
             }
@@ -131,7 +131,7 @@ fn costs_of(token: Token<'_>) -> Result<bool, Refusal>
 }
 
 /// Takes the colon after an item's word.
-pub fn colon(token: Token<'_>) -> Result<(), Refusal>
+pub fn take_colon(token: Token<'_>) -> Result<(), Refusal>
     ensures ok { OnOk result ((lexeme_of token.entry).kind ≡ TokenKind.Colon) }
     ensures refused { OnErr result ((lexeme_of token.entry).kind ≢ TokenKind.Colon) }
     ensures reason { IfErr result (λ r. IsMisplaced (lexeme_of token.entry) r.kind r.place) }
@@ -172,12 +172,12 @@ impl ElementsReader {
     {
         match self {
             ElementsReader::Colon => {
-                colon(token)?;
+                take_colon(token)?;
                 *self = ElementsReader::First;
                 Ok(())
             }
             ElementsReader::First => {
-                *self = begin(alloc, most, token)?;
+                *self = begin_elements(alloc, most, token)?;
                 Ok(())
             }
             ElementsReader::Counted(_) => Err(FeedError::Refused(misplaced(token))),
@@ -205,7 +205,7 @@ impl ElementsReader {
 }
 
 /// Begins the elements with the first token after the colon.
-fn begin(alloc: Global, most: usize, token: Token<'_>) -> Result<ElementsReader, FeedError>
+fn begin_elements(alloc: Global, most: usize, token: Token<'_>) -> Result<ElementsReader, FeedError>
     requires text { IsAsciiName (lexeme_of token) }
     requires some { 1 ≤ most }
     requires small { most < 2 ^ 32 }

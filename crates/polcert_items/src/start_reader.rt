@@ -33,7 +33,7 @@ ghost use Rattle.polcert_format.specs.Reasons.{is_sign_kind};
 
 use crate::entry_reader::Numbers;
 use crate::item::{EndError, FeedError};
-use crate::preamble_lines::{colon, element_of};
+use crate::preamble_lines::{element_of, take_colon};
 use crate::signed_number::{
     NumberStep, Range, Refusal, Sign, after_numbers, begins_number, misplaced, number_place,
     number_step,
@@ -100,7 +100,7 @@ impl StartReader {
                 Ok(())
             }
             StartReader::Colon(choice) => {
-                colon(token)?;
+                take_colon(token)?;
                 *self = StartReader::List(Chosen::new(alloc, states.count(), *choice)?);
                 Ok(())
             }
@@ -188,7 +188,7 @@ fn form_of(token: Token<'_>) -> Result<StartReader, Refusal>
     if is_word(&token, b"exclude") {
         return Ok(StartReader::Colon(Selection::Exclude));
     }
-    colon(token)?;
+    take_colon(token)?;
     Ok(StartReader::Body)
 }
 

@@ -58,7 +58,7 @@ fn worth_after<C: Cells, P: BeliefPoints>(
 
 /// Returns what follows action `a` at point `i`: the sum over the observations of what the belief after it is worth with the best next
 /// action. `ends` is the row of arrivals. `belief` is a buffer, which the caller has set to 0 at the other end states.
-pub(crate) fn later<C: Cells, P: BeliefPoints>(
+pub(crate) fn following_worth<C: Cells, P: BeliefPoints>(
     input: &CheckedPoints<'_, C, P>,
     i: usize,
     a: usize,

@@ -4,7 +4,7 @@ use crate::belief_points::BeliefPoints;
 use crate::best_worth::mass_of;
 use crate::checked_points::CheckedPoints;
 use crate::compare::excess;
-use crate::later::later;
+use crate::later::following_worth;
 use crate::point_reward::{point_reward, point_value_at_scale};
 use polcert_cells::{Cell, Cells, Row};
 use polcert_check::one_step::RewardBuffer;
@@ -43,7 +43,7 @@ impl<C: Cells, P: BeliefPoints> CheckedPoints<'_, C, P> {
         fill_arrivals(self, i, a, arrivals);
         let count = list_cells(arrivals, ends);
         clear_belief(belief);
-        let after = later(self, i, a, Row::Sparse(&ends[..count]), belief);
+        let after = following_worth(self, i, a, Row::Sparse(&ends[..count]), belief);
         let worth = point_value_at_scale(
             self.cells,
             mass_of(self.points, i),

@@ -56,7 +56,7 @@ fn max_amount(x: u128, y: u128) -> u128
 }
 
 /// Returns the findings after the next pair, which has this verdict.
-pub(crate) fn noted(findings: RobustFindings, verdict: Verdict) -> RobustFindings
+pub(crate) fn with_finding(findings: RobustFindings, verdict: Verdict) -> RobustFindings
     ensures { (i : IntervalTable) (c : Controller) (n s : ℕ) → n < c.nodes → s < i.states →
         IsRobustPair i c n s verdict → HasSuccessors verdict →
         IsSurveyedBefore i c n s findings → IsSurveyedBefore i c n (s + 1) result }

@@ -115,7 +115,7 @@ fn is_between(value: i128, low: i128, high: i128) -> bool
 }
 
 /// Returns the value that a search for a value should keep: this one if none was found or if it is wanted, else the one that was found.
-fn next_found(found: Option<i128>, value: i128, is_wanted: bool) -> Option<i128>
+fn better_found(found: Option<i128>, value: i128, is_wanted: bool) -> Option<i128>
     ensures { (result ≡ Some value) ⊎ ((result ≡ found) × (found ≡ None → ⊥)) }
 {
     match found {
@@ -140,7 +140,7 @@ fn value_between(row: &WorthRow<'_>, low: i128, high: i128) -> Option<i128>
                 return Some(row.values[i]);
             }
             seen += 1;
-            found = next_found(found, row.values[i], seen.count_ones() == 1);
+            found = better_found(found, row.values[i], seen.count_ones() == 1);
         }
     }
     found

@@ -6,7 +6,7 @@ ghost use Rattle.polcert_robust.specs.Steps.Pairs.{near_controller, near_table};
 ghost use Rattle.polcert_robust.specs.Steps.Surveys.{IsSurveyedBefore};
 
 use crate::buffers::PairBuffers;
-use crate::findings::{RobustFindings, lack_of, noted};
+use crate::findings::{RobustFindings, lack_of, with_finding};
 use crate::known_rewards::{KnownRewards, MOST_LISTED, list_end_rewards};
 use crate::pair::{Pair, robust_pair_verdict};
 use crate::robust_input::RobustInput;
@@ -55,7 +55,7 @@ pub(crate) fn survey_robust<C: Cells, W: Progress>(
                 progress.end();
                 return Err(fault);
             }
-            findings = noted(findings, verdict);
+            findings = with_finding(findings, verdict);
         }
         progress.node_done();
     }

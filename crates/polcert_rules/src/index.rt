@@ -76,7 +76,7 @@ impl Index {
     }
 
     /// Tests whether no rule of this table begins with this action's index. Rules that begin with `*` don't count.
-    pub(crate) fn names_no_action(&self, table: Table, action: usize) -> bool
+    pub(crate) fn lacks_action(&self, table: Table, action: usize) -> bool
         requires { action + 2 < key_base }
         ensures { IsTrue result → NamesNoAction self.now table action }
     {
@@ -153,7 +153,7 @@ fn are_rising(rules: &[Rule]) -> bool
     true
 }
 
-/// Keeps of neighbours with the same key the one with the greatest number.
+/// Keeps of neighbors with the same key the one with the greatest number.
 fn keep_newest_of_each(rules: &mut Vec<Rule>)
     ensures { rules.new.items ≡ newest_of_each rules.old.items }
 {
@@ -161,7 +161,7 @@ fn keep_newest_of_each(rules: &mut Vec<Rule>)
     rules.truncate(count);
 }
 
-/// Moves of neighbours with the same key the one with the greatest number to the front, in order, and returns how many these are.
+/// Moves of neighbors with the same key the one with the greatest number to the front, in order, and returns how many these are.
 fn move_newest_to_front(rules: &mut [Rule]) -> usize
     ensures { take result rules.new ≡ newest_of_each rules.old }
 {

@@ -406,7 +406,7 @@ impl Rewards {
     {
         match body {
             None => Some(0),
-            Some(body) => if is_single(body.places, self.shape.observations) {
+            Some(body) => if gives_single_number(body.places, self.shape.observations) {
                 Some(self.bodies.number_at(body, 0))
             } else {
                 None
@@ -452,7 +452,7 @@ impl Rewards {
 }
 
 /// Tests whether the body of an entry with this many places gives an end state a single number, in a model with this many observations.
-fn is_single(places: usize, observations: usize) -> bool
+fn gives_single_number(places: usize, observations: usize) -> bool
     ensures { IsTrue result → IsSingle observations places }
 {
     if places < MOST_PLACES {

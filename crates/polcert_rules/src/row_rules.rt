@@ -98,10 +98,10 @@ impl RowRules {
         let of_this = self.rule_at(action + INDICES, only);
         FittingRules {
             whole: max_option(here, max_option(of_each, of_this)),
-            of_all: self.part(EVERY, EVERY, every + ROW),
-            of_state: self.part(EVERY, start + INDICES, every + state),
-            of_action: self.part(action + INDICES, EVERY, only + ROW),
-            of_row: self.part(action + INDICES, start + INDICES, only + state),
+            of_all: self.rules_of_places(EVERY, EVERY, every + ROW),
+            of_state: self.rules_of_places(EVERY, start + INDICES, every + state),
+            of_action: self.rules_of_places(action + INDICES, EVERY, only + ROW),
+            of_row: self.rules_of_places(action + INDICES, start + INDICES, only + state),
         }
     }
 
@@ -179,7 +179,7 @@ impl RowRules {
     }
 
     /// Returns the rules that have two places with these digits, whose key is `low`.
-    fn part(&self, first: usize, second: usize, low: u64) -> RulePart<'_>
+    fn rules_of_places(&self, first: usize, second: usize, low: u64) -> RulePart<'_>
         requires rising { IsRising self.now.rules.items }
         requires room { low + key_base ^ 2 < 2 ^ 64 }
         ensures { IsPartOf self.now.rules.items low result }

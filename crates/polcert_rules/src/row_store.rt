@@ -63,7 +63,7 @@ pub(crate) struct Near<'a> {
 }
 
 /// Rows that are kept once for many actions and states. A row that one entry gives alone is made once and kept once. A row of
-/// single cells is kept once where it is that of a neighbour.
+/// single cells is kept once where it is that of a neighbor.
 #[derive(Drop)]
 pub(crate) struct RowStore {
     pub rows: StoredRows,
@@ -169,19 +169,19 @@ impl RowStore {
         ensures row { IfOk result (IsKeptRow bodies.entry.shape.columns
             (given_at bodies.entry.shape.columns bodies.entry.entries.now whole state) self.new.rows) }
     {
-        let source = source_of(bodies.entries, whole, state);
+        let source = origin_of(bodies.entries, whole, state);
         let place = self.slots.place_of(source);
         if let Some(number) = number_at(self.shared.as_slice(), place, source) {
             return Ok(number);
         }
-        let number = self.keep_whole(alloc, bodies, whole, state)?;
+        let number = self.keep_entry_row(alloc, bodies, whole, state)?;
         self.slots.note(source, self.shared.len());
         self.shared.push(SharedRow { source, number })?;
         Ok(number)
     }
 
     /// Keeps the row that one entry (or none) gives alone as the last row, and returns its number: called by `shared_row` on first use.
-    fn keep_whole(
+    fn keep_entry_row(
         &mut self,
         alloc: Global,
         bodies: Bodies<'_>,
@@ -205,7 +205,7 @@ impl RowStore {
         Ok(self.keep(cells.as_slice(), bodies.shape.columns)?)
     }
 
-    /// Returns the number of a row of these cells, which no entry gives alone: that of a neighbour with the same cells, or of a new one.
+    /// Returns the number of a row of these cells, which no entry gives alone: that of a neighbor with the same cells, or of a new one.
     fn own_row(
         &mut self,
         bodies: Bodies<'_>,
@@ -223,7 +223,7 @@ impl RowStore {
             (AreKept bodies.entry.shape.columns bodies.entry.entries.now self.new) }
         ensures row { IfOk result (λ n. slice_get self.new.rows n ≡ Some cells.now) }
     {
-        if let Some(number) = last_same(&self.rows, near, StoredRow::Sparse(cells)) {
+        if let Some(number) = neighbor_row(&self.rows, near, StoredRow::Sparse(cells)) {
             return Ok(number);
         }
         Ok(self.keep(cells, bodies.shape.columns)?)
@@ -253,7 +253,7 @@ impl RowStore {
             columns,
             exceptions,
         };
-        if let Some(number) = last_same(&self.rows, near, row) {
+        if let Some(number) = neighbor_row(&self.rows, near, row) {
             return Ok(number);
         }
         Ok(self.keep_even(weight, columns, exceptions)?)
@@ -428,18 +428,18 @@ fn numbers_sum(numbers: &[u32]) -> u64
 }
 
 /// Returns what the row of a state is made of, by the number of the entry that covers the whole row, if one does.
-fn source_of(entries: &Entries, whole: Option<usize>, state: usize) -> RowOrigin
+fn origin_of(entries: &Entries, whole: Option<usize>, state: usize) -> RowOrigin
     requires { (shape : S) × IsWholeRowEntry shape entries.now whole }
     ensures { result ≡ source_of entries.now whole state }
 {
     match whole {
         None => RowOrigin::Nothing,
-        Some(number) => source_in(entries.at(number), number, state),
+        Some(number) => origin_in(entries.at(number), number, state),
     }
 }
 
 /// Returns what the row of a state is made of that this entry gives.
-fn source_in(entry: EntryRef<'_>, number: usize, state: usize) -> RowOrigin
+fn origin_in(entry: EntryRef<'_>, number: usize, state: usize) -> RowOrigin
     ensures { result ≡ source_in number (entry_of entry.entry).places (entry_of entry.entry).body state }
 {
     match entry.body {
@@ -454,7 +454,7 @@ fn source_in(entry: EntryRef<'_>, number: usize, state: usize) -> RowOrigin
 }
 
 /// Returns the number of a row next to this one that is kept in the same way: of the state before, or of the action before.
-fn last_same(rows: &StoredRows, near: Near<'_>, row: StoredRow<'_>) -> Option<usize>
+fn neighbor_row(rows: &StoredRows, near: Near<'_>, row: StoredRow<'_>) -> Option<usize>
     requires near { AreNear rows.now near }
     ensures { IfSome result (λ n. slice_get rows.now n ≡ Some (stored_cells row.entry)) }
 {

@@ -105,7 +105,7 @@ impl Rows {
                 numbers.repeat_last()?;
                 continue;
             }
-            match action_rows(alloc, &mut store, given, last(&numbers), action)? {
+            match action_rows(alloc, &mut store, given, last_numbers(&numbers), action)? {
                 Ok(line) => numbers.push(line.as_slice())?,
                 Err(wrong) => return Ok(Err(wrong)),
             }
@@ -202,7 +202,7 @@ fn cell_weight(cells: &[Cell], column: usize) -> u64
 }
 
 /// Returns the last list of numbers, that of the action before, or an empty one if there is none.
-fn last(numbers: &Lists<u32>) -> &[u32]
+fn last_numbers(numbers: &Lists<u32>) -> &[u32]
     ensures { (size : ℕ) → All (All (λ n. n < size)) numbers.now → All (λ n. n < size) result.now }
 {
     if numbers.len() == 0 {
@@ -274,8 +274,8 @@ fn is_as_before(index: &Index, table: Table, action: usize) -> bool
     requires { action + 2 < key_base }
     ensures { IsTrue result → IsAsBefore index.now table action }
 {
-    if action > 0 && index.names_no_action(table, action) {
-        return index.names_no_action(table, action - 1);
+    if action > 0 && index.lacks_action(table, action) {
+        return index.lacks_action(table, action - 1);
     }
     false
 }

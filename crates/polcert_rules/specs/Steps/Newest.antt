@@ -36,7 +36,7 @@ rules_from digit number [] = []
 rules_from digit number (e ∷ es) =
     if table_digit e.table == digit then (record { key = key_of e; number = number } ∷ rules_from digit (number + 1) es) else rules_from digit (number + 1) es
 
--- of neighbours with the same key the greatest number, where this rule stands in front
+-- of neighbors with the same key the greatest number, where this rule stands in front
 abbrev pub newest_from : Rule → List Rule → List Rule
 newest_from last [] = last ∷ []
 newest_from last (r ∷ rs) = if r.key == last.key then newest_from (record { key = last.key; number = max last.number r.number }) rs else (last ∷ newest_from r rs)

@@ -126,7 +126,7 @@ pub record IsRowAfter (columns : ℕ) (weights : ℕ → ℕ) (old new : RowStor
 abbrev pub Stays : List (List Cell) → List (List Cell) → Type 0
 Stays old new = (n : ℕ) (row : List Cell) → slice_get old n ≡ Some row → slice_get new n ≡ Some row
 
--- the numbers of neighbours are those of rows
+-- the numbers of neighbors are those of rows
 abbrev pub AreNear : List (List Cell) → Near → Type 0
 AreNear rows near = All (λ n. n < length rows) near.here.now × All (λ n. n < length rows) near.before.now
 

@@ -19,7 +19,7 @@ pub returns-in_err-write_number_at : goal.returns-in_err-write_number_at
 returns-in_err-write_number_at g c =
     let small = c.requires.small _ (search rules) in
     let value = written_is _ (get_or c.args.rewards.now _ _) _ (search rules) small
-    c.written.ensures in
+    c.written_reward.ensures in
     turn_failed (length c.args.rewards.now) c.loop-number.invariant
     (as_text (cc) c.in_err-write_number_at.ensures) (search rules) (search rules)
 
@@ -27,6 +27,6 @@ pub loop-number-preserved : goal.loop-number-preserved
 loop-number-preserved g c =
     let small = c.requires.small _ (search rules) in
     let value = written_is _ (get_or c.args.rewards.now _ _) _ (search rules) small
-    c.written.ensures in
+    c.written_reward.ensures in
     turn_written c.loop-number.invariant (as_text (cc)
     c.in_ok-write_number_at.ensures)

@@ -3,7 +3,7 @@ use Rattle.polcert_text.proofs.Printing.Written.{and_then, unwritten, stopped, a
 use Rattle.polcert_full_form.proofs.print_words.write_index.Goals as goal
 
 pub returns-in_err-write_all : goal.returns-in_err-write_all
-returns-in_err-write_all g c = stopped (search rules) (unwritten _ (as_text c.in_place.ensures c.in_err-write_all.ensures))
+returns-in_err-write_all g c = stopped (search rules) (unwritten _ (as_text c.text_at_place.ensures c.in_err-write_all.ensures))
 
 pub returns : goal.returns
-returns g c = and_then (as_text c.in_place.ensures c.in_ok-write_all.ensures) c.write_number.ensures
+returns g c = and_then (as_text c.text_at_place.ensures c.in_ok-write_all.ensures) c.write_number.ensures

@@ -9,8 +9,9 @@ loop-number-init g c = no_turn
 
 pub returns-in_err-write_all : goal.returns-in_err-write_all
 returns-in_err-write_all g c =
-    turn_failed c.args.count c.loop-number.invariant (as_text (c.in_place.ensures ∙ zero_at _) c.in_err-write_all.ensures) (search rules)
+    turn_failed c.args.count c.loop-number.invariant (as_text (c.text_at_place.ensures ∙ zero_at _) c.in_err-write_all.ensures)
+    (search rules)
     (search rules)
 
 pub loop-number-preserved : goal.loop-number-preserved
-loop-number-preserved g c = turn_written c.loop-number.invariant (as_text (c.in_place.ensures ∙ zero_at _) c.in_ok-write_all.ensures)
+loop-number-preserved g c = turn_written c.loop-number.invariant (as_text (c.text_at_place.ensures ∙ zero_at _) c.in_ok-write_all.ensures)

@@ -10,4 +10,4 @@ returns-then-is_word-2-clause-begun c = λ states. list_begins states (lexeme_of
     (c.is_word-2.ensures.0 c.if-is_word-2.true)
 
 pub returns-clause-begun : goal.returns-clause-begun
-returns-clause-begun c = λ states. colon_begins states (lexeme_of c.args.token) c.in_ok-colon.ensures.ok
+returns-clause-begun c = λ states. colon_begins states (lexeme_of c.args.token) c.in_ok-take_colon.ensures.ok

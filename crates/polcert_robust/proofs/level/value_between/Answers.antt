@@ -15,8 +15,8 @@ loop-i-preserved c =
       | then-is_between+else-row-le-FEW_WEIGHTS w ↦ record {
         few = omega arith;
         some = rw w.found-is (chosen_some low high _ _ _
-            (c.is_between.ensures.between w.if-is_between.true) c.loop-i.invariant.some w.next_found-found.ensures);
-        none = λ e. absurd (chosen_is_some _ _ _ w.next_found-found.ensures (cc));
+            (c.is_between.ensures.between w.if-is_between.true) c.loop-i.invariant.some w.better_found-found.ensures);
+        none = λ e. absurd (chosen_is_some _ _ _ w.better_found-found.ensures (cc));
       }
       | else-is_between w ↦ record {
         few = omega arith;

@@ -35,7 +35,7 @@ loop-s-init g c = record {
 
 pub loop-s-preserved : goal.loop-s-preserved
 loop-s-preserved g c = record {
-  surveyed = c.noted-findings.ensures _ _ _ _ (omega arith) (omega arith)
+  surveyed = c.with_finding-findings.ensures _ _ _ _ (omega arith) (omega arith)
       c.robust_pair_verdict-verdict.ensures.verdict c.in_default.ensures.none c.loop-s.invariant.surveyed;
   kept = c.robust_pair_verdict-verdict.ensures.kept;
   known = c.constant_reward-constant.ensures.kept;

@@ -3,8 +3,8 @@ use Rattle.polcert_items.proofs.Common.{common_steps, lexeme_of}
 use Rattle.polcert_items.proofs.ElementLaws.{named_takes, on_ok_both, seen_colon, seen_first}
 use Rattle.polcert_items.proofs.preamble_lines.ElementsReader.feed.Goals as goal
 
-pub returns-in_ok-colon-in-Colon-clause-seen : goal.returns-in_ok-colon-in-Colon-clause-seen
-returns-in_ok-colon-in-Colon-clause-seen c = λ body seen. seen_colon body (lexeme_of c.args.token) (rw c.in-Colon.is at seen)
+pub returns-in_ok-take_colon-in-Colon-clause-seen : goal.returns-in_ok-take_colon-in-Colon-clause-seen
+returns-in_ok-take_colon-in-Colon-clause-seen c = λ body seen. seen_colon body (lexeme_of c.args.token) (rw c.in-Colon.is at seen)
 
 pub returns-in_ok-self-in-First-clause-seen : goal.returns-in_ok-self-in-First-clause-seen
 returns-in_ok-self-in-First-clause-seen c = λ body seen.

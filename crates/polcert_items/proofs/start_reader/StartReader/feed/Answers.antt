@@ -41,7 +41,7 @@ returns-in_ok-self-in-Form-clause-fed c =
 pub returns-in_ok-new-in-Colon-clause-fed : goal.returns-in_ok-new-in-Colon-clause-fed
 returns-in_ok-new-in-Colon-clause-fed c =
     fed_as c.args.states.now _ _ _ _ c.in-Colon.is (search rules) (search rules) (search rules)
-    (λ body seen. list_seen _ body _ c.in_ok-new-in-Colon.field-0 seen.body_is (ap is_sign_kind c.in_ok-colon-in-Colon.ensures.ok))
+    (λ body seen. list_seen _ body _ c.in_ok-new-in-Colon.field-0 seen.body_is (ap is_sign_kind c.in_ok-take_colon-in-Colon.ensures.ok))
 
 pub returns-in_ok-feed-in-List-clause-fed : goal.returns-in_ok-feed-in-List-clause-fed
 returns-in_ok-feed-in-List-clause-fed c =

@@ -15,8 +15,8 @@ use Rattle.polcert_points.specs.Belief.{mass}
 use Rattle.polcert_points.specs.PointCheck.{IsRoundedUp}
 use Rattle.polcert_points.proofs.checked_points.CheckedPoints.point_excess.Goals as goal
 
-pub later-after-requires-clause-ends : goal.later-after-requires-clause-ends
-later-after-requires-clause-ends g c =
+pub following_worth-after-requires-clause-ends : goal.following_worth-after-requires-clause-ends
+following_worth-after-requires-clause-ends g c =
     let t : CellTable = g.C.Cells.table c.args.self.now.cells.now in
     let p : PointTable = g.P.BeliefPoints.table c.args.self.now.points.now in
     let size : length c.fill_arrivals.new.arrivals ≡ t.states = c.fill_arrivals.auto.arrivals ∙ c.requires.arrivals in
@@ -45,8 +45,8 @@ excess-requires-clause-later g c =
     let m : IsProper t = g.met.C.Cells.is_proper c.args.self.now.cells.now in
     let limits : IsWithinLimits t = g.met.C.Cells.is_within_limits c.args.self.now.cells.now in
     rw (
-      to_z-of_z w128 c.later-after.result (search rules),
-      c.later-after.ensures (covers_of t p c.args.i c.args.a)
+      to_z-of_z w128 c.following_worth-after.result (search rules),
+      c.following_worth-after.ensures (covers_of t p c.args.i c.args.a)
           (λ z zl. covers_are t p c.args.self.now.fit proper c.args.i c.args.a z c.requires.point c.requires.action zl),
     )
     (later_le t p c.args.self.now.fit proper m limits c.args.self.now.charges.now c.args.self.now.small c.args.i c.args.a c.requires.point
@@ -62,11 +62,11 @@ returns g c =
     rw (to_z-of_z w128 c.excess.result (search rules))
     (subst (λ (y : ℤ). IsRoundedUp y c.excess.result)
     (excess_is t (charge_at p c.args.self.now.charges.now) p.points covers c.args.i c.args.a
-    (to_z w128 (of_z w128 c.point_reward-reward.result)) (to_z w128 (of_z w128 c.later-after.result))
+    (to_z w128 (of_z w128 c.point_reward-reward.result)) (to_z w128 (of_z w128 c.following_worth-after.result))
     (to_z w128 (of_z w128 c.point_value_at_scale-worth.result)) c.discount.result
     (to_z-of_z w128 c.point_reward-reward.result (search rules) ∙ c.point_reward-reward.ensures.value)
-    (to_z-of_z w128 c.later-after.result (search rules)
-    ∙ c.later-after.ensures (covers c.args.i c.args.a) (λ z zl. are c.args.i c.args.a z c.requires.point c.requires.action zl))
+    (to_z-of_z w128 c.following_worth-after.result (search rules)
+    ∙ c.following_worth-after.ensures (covers c.args.i c.args.a) (λ z zl. are c.args.i c.args.a z c.requires.point c.requires.action zl))
     c.discount.ensures
     (to_z-of_z w128 c.point_value_at_scale-worth.result (search rules)
     ∙ rw (to_z-of_z w64 c.value.result (search rules), c.value.ensures, weighs) at c.point_value_at_scale-worth.ensures.value))

@@ -16,8 +16,8 @@ returns c =
           (newest_of_three _ 3 low a [] c.rule_at-here.result _ _ c.rule_at-here.ensures
           (newest_end _ 3 _ _ c.rule_at-of_each.ensures)
           (newest_end _ 3 _ _ c.rule_at-of_this.ensures));
-      of_all = c.part.ensures;
-      of_state = c.part-2.ensures;
-      of_action = c.part-3.ensures;
-      of_row = c.part-4.ensures;
+      of_all = c.rules_of_places.ensures;
+      of_state = c.rules_of_places-2.ensures;
+      of_action = c.rules_of_places-3.ensures;
+      of_row = c.rules_of_places-4.ensures;
     }

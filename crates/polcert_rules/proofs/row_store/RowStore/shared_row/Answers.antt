@@ -6,9 +6,9 @@ use Rattle.polcert_rules.proofs.row_store.RowStore.shared_row.Goals as goal
 pub returns-in-Some-clause-row : goal.returns-in-Some-clause-row
 returns-in-Some-clause-row c =
     let k = c.args.self.now in
-    let here = subst (λ xs. IsShared xs c.source_of-source.result c.in-Some.number) c.as_slice.ensures.value
+    let here = subst (λ xs. IsShared xs c.origin_of-source.result c.in-Some.number) c.as_slice.ensures.value
     c.in-Some.ensures in
-    known_row _ _ _ _ _ k c.requires.kept (subst (λ (x : RowOrigin). IsShared k.shared.items x c.in-Some.number) c.source_of-source.ensures
+    known_row _ _ _ _ _ k c.requires.kept (subst (λ (x : RowOrigin). IsShared k.shared.items x c.in-Some.number) c.origin_of-source.ensures
     here)
 
 pub returns-clause-stays : goal.returns-clause-stays
@@ -27,7 +27,7 @@ returns-clause-kept c =
       row = cells;
       is = after_row n entries _ _ _ _ added.kept c.in_ok-number.ensures.number;
       made =
-          subst (λ (x : RowOrigin). IsFrom n entries x cells) (sym c.source_of-source.ensures)
+          subst (λ (x : RowOrigin). IsFrom n entries x cells) (sym c.origin_of-source.ensures)
           (from_row n entries c.args.whole c.args.state cells added.row);
     })
     (after_kept n entries cells _ _ added.kept added.row.sparse c.requires.kept)

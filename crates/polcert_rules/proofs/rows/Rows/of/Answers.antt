@@ -24,7 +24,7 @@ loop-action-init c = (
 )
 
 pub action_rows-requires-clause-before : goal.action_rows-requires-clause-before
-action_rows-requires-clause-before c = c.last.ensures _ (all_below _ _ _ _ c.loop-action.invariant.1)
+action_rows-requires-clause-before c = c.last_numbers.ensures _ (all_below _ _ _ _ c.loop-action.invariant.1)
 
 pub loop-action-preserved-then-is_as_before : goal.loop-action-preserved-then-is_as_before
 loop-action-preserved-then-is_as_before c =

@@ -3,7 +3,7 @@ use Rattle.polcert_items.proofs.Common.{IfErr-weaker, lexeme_of, CannotTake, IfR
 use Rattle.polcert_items.proofs.PatternLaws.{if_err_both, refused_map, each_refused_map, each_refused_both}
 use Rattle.polcert_items.proofs.WantLaws.{first_misfit}
 use Rattle.polcert_items.proofs.ElementLaws.{count_takes, first_takes, first_stuck, first_reason}
-use Rattle.polcert_items.proofs.preamble_lines.begin.Goals as goal
+use Rattle.polcert_items.proofs.preamble_lines.begin_elements.Goals as goal
 
 pub returns-in_err-add_name-in_default-clause-refused : goal.returns-in_err-add_name-in_default-clause-refused
 returns-in_err-add_name-in_default-clause-refused c =

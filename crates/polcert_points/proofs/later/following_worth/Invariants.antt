@@ -5,7 +5,7 @@ use Rattle.polcert_points.specs.Points.{best_worth}
 use Rattle.polcert_points.specs.PointTable.{charge_at}
 use Rattle.polcert_points.specs.Steps.PointSums.{arrival}
 use Rattle.polcert_points.proofs.NamedCovers.{covers_of}
-use Rattle.polcert_points.proofs.later.later.Given as goal
+use Rattle.polcert_points.proofs.later.following_worth.Given as goal
 
 -- the sum over the observations so far, and no weight at end states that are not reached
 abbrev pub invariant-loop-z : goal.invariant-loop-z

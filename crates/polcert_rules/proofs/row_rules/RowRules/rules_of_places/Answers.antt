@@ -1,5 +1,5 @@
 use Rattle.std.proofs.Common.{refl}
-use Rattle.polcert_rules.proofs.row_rules.RowRules.part.Goals as goal
+use Rattle.polcert_rules.proofs.row_rules.RowRules.rules_of_places.Goals as goal
 
 pub invariant_of-result : goal.invariant_of-result
 invariant_of-result c = record {

@@ -1,6 +1,6 @@
 use Rattle.std.proofs.Common.{◌∙◌, ◌+◌, ◌*◌, ◌^◌, ◌≤◌, List, Contains, subst, sym, ap, arith}
 use Rattle.polcert_rules.proofs.Common.{Rule, key_base}
-use Rattle.polcert_rules.proofs.index.Index.names_no_action.Goals as goal
+use Rattle.polcert_rules.proofs.index.Index.lacks_action.Goals as goal
 
 pub returns : goal.returns
 returns c t r among low =

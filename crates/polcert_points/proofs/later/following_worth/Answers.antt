@@ -3,7 +3,7 @@ use Rattle.polcert_points.proofs.Common.{w128, CellTable, IsProper}
 use Rattle.polcert_cells.specs.Tables.{IsWithinLimits}
 use Rattle.polcert_points.specs.PointTable.{PointTable, IsProperPointTable}
 use Rattle.polcert_points.proofs.Laters.{later_step, later_is}
-use Rattle.polcert_points.proofs.later.later.Goals as goal
+use Rattle.polcert_points.proofs.later.following_worth.Goals as goal
 
 pub worth_after-sum-requires-clause-others : goal.worth_after-sum-requires-clause-others
 worth_after-sum-requires-clause-others g c = c.loop-z.invariant.others

@@ -2,7 +2,7 @@ use Rattle.std.proofs.Common.{rules}
 use Rattle.std.proofs.lemmas.Int.{to_z-of_z}
 use mir.Syntax.{w128}
 use Rattle.polcert_robust.proofs.Surveying.{short_noted, yes_noted}
-use Rattle.polcert_robust.proofs.findings.noted.Goals as goal
+use Rattle.polcert_robust.proofs.findings.with_finding.Goals as goal
 
 pub returns-in-Yes : goal.returns-in-Yes
 returns-in-Yes c = λ i k n s nl sl pair has is. yes_noted i k n s _ nl sl is (rw c.in-Yes.is at pair)

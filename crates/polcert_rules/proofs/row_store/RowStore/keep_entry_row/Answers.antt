@@ -6,7 +6,7 @@ use Rattle.polcert_cells.proofs.SparseLaws.{row_same}
 use Rattle.polcert_rules.specs.Steps.Lists.{filled_cells}
 use Rattle.polcert_rules.proofs.RowLaws.EvenLaws.{filled_row, sum_even}
 use Rattle.polcert_rules.proofs.Indexes.KeptLaws.{whole_small, full_row}
-use Rattle.polcert_rules.proofs.row_store.RowStore.keep_whole.Goals as goal
+use Rattle.polcert_rules.proofs.row_store.RowStore.keep_entry_row.Goals as goal
 
 pub keep_numbers-requires-clause-few : goal.keep_numbers-requires-clause-few
 keep_numbers-requires-clause-few c = omega (arith, c.in-Some.ensures.size, c.requires.within.columns.1)
