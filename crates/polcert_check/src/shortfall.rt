@@ -206,18 +206,19 @@ pub(crate) fn pair_verdict<C: Cells>(
 /// Returns a quotient, rounded up.
 pub fn ceil_quotient(amount: u128, divisor: u128) -> u128
     requires some { 0 < divisor }
-    requires room { amount + divisor ≤ 2 ^ 127 }
     ensures enough { amount ≤ divisor * result }
     ensures least { (d : ℕ) → d < result → divisor * d < amount }
 {
-    (amount + (divisor - 1)) / divisor
+    if amount == 0 {
+        return 0;
+    }
+    (amount - 1) / divisor + 1
 }
 
 /// Returns a quotient, rounded up. It is at most the sum of three values in size.
-fn small_quotient(amount: u128, scale: u128) -> i64
+pub fn small_quotient(amount: u128, scale: u128) -> i64
     requires some { 0 < amount }
     requires scale { 0 < scale }
-    requires room { scale ≤ most_scales * 1_000_000 }
     requires small { amount ≤ scale * (3 * largest) }
     ensures { IsCeilQuotient (pos amount) scale result }
 {

@@ -1,6 +1,5 @@
 //! The line of a verdict on vectors of the actions and belief points: what it says, and how it is written.
 ghost use Rattle.std.specs.Prelude.{◌≡◌, ◌*◌, ◌<◌, ◌≤◌, pos, ◌<ℤ◌, length, unsigned_abs};
-ghost use Rattle.polcert_text.specs.Numbers.{largest};
 ghost use Rattle.polcert_text.specs.Sink.{WritesText};
 ghost use Rattle.polcert_cells.specs.Tables.{table_of};
 ghost use Rattle.polcert_check.specs.StartWorth.{IsCeilQuotient};
@@ -20,7 +19,7 @@ use crate::verdict::PointBoundVerdict;
 use polcert_answer::write_count;
 use polcert_bound_answer::{BoundLine, write_bound_verdict};
 use polcert_check::millionths_short;
-use polcert_check::one_step::ceil_quotient;
+use polcert_check::one_step::small_quotient;
 use polcert_optimum::bound_most_from_start;
 use polcert_points::{ReadPoints, mass_of, most_from_points};
 use polcert_text::{BufferedSink, Sink, SinkFailed, write_all, write_scaled};
@@ -54,17 +53,6 @@ fn most_of_yes(read: &PointInputs, charges: &mut [i64]) -> i64
         let points = ReadPoints::of(&read.points);
         most_from_points(&bound.model, &bound.vectors, &points, charges)
     }
-}
-
-/// Returns a quotient, rounded up. It is at most the sum of three values in size.
-fn small_quotient(amount: u128, scale: u128) -> i64
-    requires some { 0 < amount }
-    requires scale { 0 < scale }
-    requires room { scale ≤ 5_000_000_000_000_000_000 * 1_000_000 }
-    requires small { amount ≤ scale * (3 * largest) }
-    ensures { IsCeilQuotient (pos amount) scale result }
-{
-    ceil_quotient(amount, scale) as i64
 }
 
 /// Returns by how many millionths the backup of an action at a point is above its value, rounded up, so that it is never 0.

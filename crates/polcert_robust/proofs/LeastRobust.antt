@@ -1,7 +1,5 @@
 -- The greatest robust shortfall, and the least constant that it gives.
-use Rattle.std.proofs.lemmas.Nat.{div-add-mod'}
-use Rattle.std.proofs.Math.Nat.{mul-le-mul_left}
-use Rattle.std.proofs.Common.{◌≡◌, ℕ, ◌+◌, ◌-◌, ◌*◌, ◌/◌, ◌<◌, ◌≤◌, ◌⊎◌, inl, ⊎_elim, ℤ, pos, ◌-ℤ◌, ◌*ℤ◌, ◌<ℤ◌}
+use Rattle.std.proofs.Common.{◌≡◌, ℕ, ◌+◌, ◌-◌, ◌*◌, ◌<◌, ◌≤◌, ◌⊎◌, inl, ⊎_elim, ℤ, pos, ◌-ℤ◌, ◌*ℤ◌, ◌<ℤ◌}
 use Rattle.std.proofs.Common.{None, ap, subst, arith}
 use Rattle.polcert_check.specs.Horizon.{Controller, one}
 use Rattle.polcert_check.specs.Lower.{lowered_by}
@@ -21,15 +19,6 @@ use Rattle.polcert_robust.specs.Steps.Surveys.{IsFirstBefore, IsPairMeasured, Is
 use Rattle.polcert_robust.proofs.Lowered.{lowered_step}
 use Rattle.polcert_robust.proofs.OneWorst.{one_worst}
 use Rattle.polcert_robust.proofs.Rows.{times_less}
-
--- ---- a quotient, rounded up
-pub up_enough : (a d : ℕ) → 0 < d → a ≤ d * ((a - 1) / d + 1)
-up_enough a d some = omega arith
-
-pub up_least : (a d e : ℕ) → 0 < d → 0 < a → e < (a - 1) / d + 1 → d * e < a
-up_least a d e some positive less =
-    let l : e ≤ (a - 1) / d = omega arith in
-    omega (arith, div-add-mod' (a - 1) d, mul-le-mul_left d l)
 
 -- ---- what a constant takes away from a shortfall
 lowered_amount : (t o d by : ℕ) (v b b' amount : ℤ) → d ≤ one → amount ≡ pos (t * o * one) *ℤ v -ℤ b

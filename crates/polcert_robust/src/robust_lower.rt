@@ -19,21 +19,10 @@ use crate::robust_input::RobustInput;
 use crate::side::Side;
 use crate::survey::survey_robust;
 use polcert_cells::Cells;
+use polcert_check::one_step::ceil_quotient;
 use polcert_check::{LowerFault, Progress, Verdict};
 use polcert_policy::{Graph, Vectors};
 use std::alloc::Global;
-
-/// Returns a quotient, rounded up.
-fn quotient_rounded_up(amount: u128, divisor: u128) -> u128
-    requires some { 0 < divisor }
-    ensures enough { amount ≤ divisor * result }
-    ensures least { (d : ℕ) → d < result → divisor * d < amount }
-{
-    if amount == 0 {
-        return 0;
-    }
-    (amount - 1) / divisor + 1
-}
 
 /// Tests whether the value less `by` is in range.
 fn is_lowered_in_range(value: i64, by: u128) -> bool
@@ -74,7 +63,7 @@ fn least_robust_below_one<C: Cells>(input: &RobustInput<'_, C>, findings: Robust
 {
     let cells = input.cells;
     let scale = (cells.t_scale() * cells.o_scale()) as u128;
-    quotient_rounded_up(
+    ceil_quotient(
         findings.worst,
         scale * (1_000_000 - cells.discount()) as u128,
     )

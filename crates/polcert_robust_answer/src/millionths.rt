@@ -1,21 +1,12 @@
 //! The amount by which a pair fails, in millionths.
-ghost use Rattle.std.specs.Prelude.{◌≡◌, ◌<◌, ◌≤◌, ◌*◌, ◌<ℤ◌, ℕ, pos, unsigned_abs};
+ghost use Rattle.std.specs.Prelude.{◌<◌, ◌≤◌, ◌*◌, ◌<ℤ◌, pos, unsigned_abs};
 ghost use Rattle.polcert_text.specs.Numbers.{largest};
 ghost use Rattle.polcert_cells.specs.Tables.{IsWithinLimits};
 ghost use Rattle.polcert_check.specs.Horizon.{one};
 ghost use Rattle.polcert_check.specs.StartWorth.{IsCeilQuotient};
 
 use polcert_cells::Cells;
-
-/// Returns a quotient, rounded up.
-fn positive_quotient_up(amount: u128, divisor: u128) -> u128
-    requires some { 0 < divisor }
-    requires positive { 0 < amount }
-    ensures enough { amount ≤ divisor * result }
-    ensures least { (d : ℕ) → d < result → divisor * d < amount }
-{
-    (amount - 1) / divisor + 1
-}
+use polcert_check::one_step::ceil_quotient;
 
 /// Returns a quotient, rounded up. It is at most the sum of four values in size.
 fn narrow_quotient(amount: u128, scale: u128) -> i64
@@ -24,7 +15,7 @@ fn narrow_quotient(amount: u128, scale: u128) -> i64
     requires small { amount ≤ scale * (4 * largest) }
     ensures { IsCeilQuotient (pos amount) scale result }
 {
-    positive_quotient_up(amount, scale) as i64
+    ceil_quotient(amount, scale) as i64
 }
 
 /// Returns the amount by which a pair fails in the worst case, in millionths and rounded up, so that it is never 0.

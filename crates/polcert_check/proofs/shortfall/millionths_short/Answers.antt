@@ -2,7 +2,6 @@ use Rattle.std.proofs.Common.{◌≡◌, ◌∙◌, ℕ, ◌*◌, ◌≤◌, ℤ
 use Rattle.std.proofs.Common.{to_z-of_z, FitsSigned}
 use Rattle.std.specs.Int.{w128}
 use Rattle.polcert_check.proofs.Common.{ints, largest, one, IsCeilQuotient}
-use Rattle.std.proofs.Math.Nat.{mul-le-mul_right}
 use Rattle.polcert_check.proofs.Sums.Scales.{scales_le}
 use Rattle.polcert_check.proofs.shortfall.millionths_short.Goals as goal
 
@@ -25,13 +24,10 @@ small_quotient-requires-clause-small g c = grind (arith, to_z-of_z, small_enough
 pub overflow_mul-scale : goal.overflow_mul-scale
 overflow_mul-scale g c = grind (arith, scales_le)
 
-pub small_quotient-requires-clause-room : goal.small_quotient-requires-clause-room
-small_quotient-requires-clause-room g c = grind (arith, mul-le-mul_right, scales_le)
-
 pub returns : goal.returns
 returns g c =
     let fits : FitsSigned w128 c.args.amount = search rules in
     let same = c.unsigned_abs.ensures.value ∙ ap unsigned_abs (to_z-of_z {w = w128} fits) in
     let narrow_fits : FitsSigned w64 c.small_quotient.result = search rules in
-    rw (to_z-of_z {w = w64} narrow_fits) (quotient c.args.amount _ _ c.small_quotient.result c.requires.short
+    rw (to_z-of_z {w = w64} narrow_fits) (quotient _ _ _ _ c.requires.short
     (rw (same, c.t_scale.ensures, c.o_scale.ensures) at c.small_quotient.ensures))

@@ -14,23 +14,9 @@ use Rattle.polcert_optimum.proofs.raise.least_below_one.Goals as goal
 pub overflow_mul-scale : goal.overflow_mul-scale
 overflow_mul-scale g c = grind (arith, scales_le)
 
-pub ceil_quotient-requires-clause-some : goal.ceil_quotient-requires-clause-some
+pub ceil_quotient-requires : goal.ceil_quotient-requires
 unfolding one
-ceil_quotient-requires-clause-some g c = grind arith
-
-pub ceil_quotient-requires-clause-room : goal.ceil_quotient-requires-clause-room
-ceil_quotient-requires-clause-room g c =
-    let t = g.C.Cells.table _ in
-    let p = g.met.C.Cells.is_proper _ in
-    let limits = g.met.C.Cells.is_within_limits _ in
-    let q : c.t_scale.result * c.o_scale.result ≤ most_scales = rw (c.t_scale.ensures, c.o_scale.ensures) (scales_le t limits) in
-    let is = c.unsigned_abs-greatest.ensures.value
-    ∙ ap unsigned_abs (to_z-of_z w128 c.greatest_excess.result (search rules)) in
-    (factor_room _ _ _ _ q
-    (subst (λ (n : ℕ). n ≤ 3 * most_sum) (sym is) (le_trans
-    (greatest_small t p limits _
-    (vectors_small t _ c.requires.fit c.nodes-vectors.ensures.proper) _ 0 _
-    c.greatest_excess.ensures) (most_short_le (taking t 0) limits)))).2
+ceil_quotient-requires g c = grind arith
 
 pub returns : goal.returns
 returns g c =

@@ -28,9 +28,9 @@ overflow_mul-scale-2 g c =
           (rw (c.t_scale.ensures, c.o_scale.ensures) (scales_le t limits)) (omega arith)).1,
     )
 
-pub quotient_rounded_up-requires : goal.quotient_rounded_up-requires
+pub ceil_quotient-requires : goal.ceil_quotient-requires
 unfolding one
-quotient_rounded_up-requires g c =
+ceil_quotient-requires g c =
     let t = cells_of c.args.input.now in
     let some = scales t (g.met.C.Cells.is_within_limits _) in
     record {
@@ -45,7 +45,7 @@ returns g c =
     let k = near_controller c.args.input.now in
     let limits = g.met.C.Cells.is_within_limits _ in
     let some = scales t limits in
-    let enough = rw (c.t_scale.ensures, c.o_scale.ensures, c.discount.ensures) at c.quotient_rounded_up.ensures.enough in
+    let enough = rw (c.t_scale.ensures, c.o_scale.ensures, c.discount.ensures) at c.ceil_quotient.ensures.enough in
     least_robust i k (discount_le t limits) some.0 some.1 _ _
     (λ n s nl sl. c.requires.found.measured n s nl sl (inl nl)) c.requires.found.is_reached enough
-    (rw (c.t_scale.ensures, c.o_scale.ensures, c.discount.ensures) at c.quotient_rounded_up.ensures.least)
+    (rw (c.t_scale.ensures, c.o_scale.ensures, c.discount.ensures) at c.ceil_quotient.ensures.least)

@@ -1,8 +1,0 @@
-use Rattle.polcert_robust.proofs.LeastRobust.{up_enough, up_least}
-use Rattle.polcert_robust_answer.proofs.millionths.positive_quotient_up.Goals as goal
-
-pub returns-clause-enough : goal.returns-clause-enough
-returns-clause-enough c = up_enough c.args.amount c.args.divisor c.requires.some
-
-pub returns-clause-least : goal.returns-clause-least
-returns-clause-least c = λ d less. up_least c.args.amount c.args.divisor d c.requires.some c.requires.positive less
