@@ -12,7 +12,7 @@ ghost use Rattle.polcert_rules.specs.Steps.Given.{IsShapeWithin};
 ghost use Rattle.polcert_cells.specs.Sparse.{weight_at, scaled_cells, IsRow, IsSparse, excepted_weight};
 ghost use Rattle.polcert_rules.specs.Steps.Lists.{IsFullLine, part_in, stored_cells, filled_cells, AreExceptions};
 ghost use Rattle.polcert_rules.specs.Steps.Merging.{given_at, weight_by_entries, Rises};
-ghost use Rattle.polcert_rules.specs.Steps.Sources.{source_of, source_in, IsWholeRowEntry, IsFrom, AreKept};
+ghost use Rattle.polcert_rules.specs.Steps.Sources.{origin_of, origin_in, IsWholeRowEntry, IsFrom, AreKept};
 ghost use Rattle.polcert_rules.specs.Steps.Sources.{AreNumbersOf, IsKeptRow, IsShared, IsAfter, IsRowAfter};
 ghost use Rattle.polcert_rules.specs.Steps.Sources.{Stays, AreNear, sum_of_weights};
 
@@ -430,7 +430,7 @@ fn numbers_sum(numbers: &[u32]) -> u64
 /// Returns what the row of a state is made of, by the number of the entry that covers the whole row, if one does.
 fn origin_of(entries: &Entries, whole: Option<usize>, state: usize) -> RowOrigin
     requires { (shape : S) × IsWholeRowEntry shape entries.now whole }
-    ensures { result ≡ source_of entries.now whole state }
+    ensures { result ≡ origin_of entries.now whole state }
 {
     match whole {
         None => RowOrigin::Nothing,
@@ -440,7 +440,7 @@ fn origin_of(entries: &Entries, whole: Option<usize>, state: usize) -> RowOrigin
 
 /// Returns what the row of a state is made of that this entry gives.
 fn origin_in(entry: EntryRef<'_>, number: usize, state: usize) -> RowOrigin
-    ensures { result ≡ source_in number (entry_of entry.entry).places (entry_of entry.entry).body state }
+    ensures { result ≡ origin_in number (entry_of entry.entry).places (entry_of entry.entry).body state }
 {
     match entry.body {
         BodyRef::Probabilities(_) => RowOrigin::Line {

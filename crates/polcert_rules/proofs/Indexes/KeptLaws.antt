@@ -9,7 +9,7 @@ use Rattle.polcert_rules.proofs.Common.{IsWholeRowEntry, sum_of_weights}
 use Rattle.polcert_rules.proofs.Common.{AreKept, IsKeptRow, IsShared, IsAfter, Stays}
 use Rattle.std.proofs.lemmas.List.Elements.{All-weaker}
 use Rattle.polcert_rules.specs.Steps.Given.{body_weight}
-use Rattle.polcert_rules.specs.Steps.Sources.{source_of, IsSharedRow, is_proper, HaveScale}
+use Rattle.polcert_rules.specs.Steps.Sources.{origin_of, IsSharedRow, is_proper, HaveScale}
 use Rattle.std.specs.List.{slice_get}
 use Rattle.std.proofs.Math.Nat.{mul-le-mul_left, mul_comm}
 use Rattle.polcert_rules.specs.declared.row_store.RowOrigin.TheVariants.{Nothing, Even, Diagonal, Line}
@@ -47,23 +47,23 @@ module _ (columns : ℕ) (entries : List Entry) where
   made_of (Diagonal s) c = cond (eqb s c) (one * columns) 0
   made_of (Line n l) c = given_at columns entries (Some n) l c
 
-  by_source : (whole : Option ℕ) (s c : ℕ) → given_at columns entries whole s c ≡ made_of (source_of entries whole s) c
+  by_source : (whole : Option ℕ) (s c : ℕ) → given_at columns entries whole s c ≡ made_of (origin_of entries whole s) c
   by_source whole s c = grind arith
 
-  same_source : (one other : Option ℕ) (s t c : ℕ) → source_of entries one s ≡ source_of entries other t
+  same_source : (one other : Option ℕ) (s t c : ℕ) → origin_of entries one s ≡ origin_of entries other t
       → given_at columns entries one s c ≡ given_at columns entries other t c
   same_source one other s t c e = by_source one s c ∙ ap (λ x. made_of x c) e ∙ sym (by_source _ t c)
 
   pub from_row : (whole : Option ℕ) (s : ℕ) (cells : List Cell) → IsRow columns (given_at columns entries whole s) cells
-      → IsFrom columns entries (source_of entries whole s) cells
+      → IsFrom columns entries (origin_of entries whole s) cells
   from_row whole s cells r other t e c l = r.each c l ∙ sym (same_source _ _ t s c e)
 
   -- ---- a row that is kept already, and one more
   pub known_row : (whole : Option ℕ) (s n : ℕ) (k : RowStore) → AreKept columns entries k
-      → IsShared k.shared.items (source_of entries whole s) n → IsKeptRow columns (given_at columns entries whole s) k.rows n
+      → IsShared k.shared.items (origin_of entries whole s) n → IsKeptRow columns (given_at columns entries whole s) k.rows n
   known_row whole s n k all m =
       let x = at_number (IsSharedRow columns entries k.rows) k.shared.items m.place
-      (record { source = source_of entries whole s; number = n }) all.common m.is in
+      (record { source = origin_of entries whole s; number = n }) all.common m.is in
       record { row = x.row; is = x.is; each = x.made whole s refl }
 
   -- the cells of a row that is kept

@@ -32,21 +32,21 @@ use Rattle.polcert_rules.specs.Steps.Merging.{given_at, weight_by_entries}
 -- ---- what a row is made of
 -- the row of this state, where the entry of this number has these places and this body: all rows of `uniform` are
 -- alike, whatever the entry, and so are those of one state of `identity`
-abbrev pub source_in : ℕ → List Place → Body → ℕ → RowOrigin
-source_in n (p ∷ []) (Probabilities ps) s = Line n s
-source_in n _ (Probabilities ps) s = Line n 0
-source_in n _ Identity s = Diagonal s
-source_in n _ Uniform s = Even
-source_in n _ (Rewards hs) s = Nothing
+abbrev pub origin_in : ℕ → List Place → Body → ℕ → RowOrigin
+origin_in n (p ∷ []) (Probabilities ps) s = Line n s
+origin_in n _ (Probabilities ps) s = Line n 0
+origin_in n _ Identity s = Diagonal s
+origin_in n _ Uniform s = Even
+origin_in n _ (Rewards hs) s = Nothing
 
 -- what a row without single cells is made of, by the number of the entry that covers the whole row
-abbrev pub source_of : List Entry → Option ℕ → ℕ → RowOrigin
-source_of entries None s = Nothing
-source_of entries (Some n) s = value_or Nothing (λ e. source_in n e.places e.body s) (slice_get entries n)
+abbrev pub origin_of : List Entry → Option ℕ → ℕ → RowOrigin
+origin_of entries None s = Nothing
+origin_of entries (Some n) s = value_or Nothing (λ e. origin_in n e.places e.body s) (slice_get entries n)
 
 -- the cells are each row that is made of this
 abbrev pub IsFrom : ℕ → List Entry → RowOrigin → List Cell → Type 0
-IsFrom columns entries source cells = (whole : Option ℕ) (s : ℕ) → source_of entries whole s ≡ source → (c : ℕ) → c < columns → weight_at cells c ≡ given_at columns entries whole s c
+IsFrom columns entries source cells = (whole : Option ℕ) (s : ℕ) → origin_of entries whole s ≡ source → (c : ℕ) → c < columns → weight_at cells c ≡ given_at columns entries whole s c
 
 -- ---- what the index says of a row
 -- the entry of this number gives one number, within its limit
