@@ -11,7 +11,7 @@ ghost use Rattle.polcert_full_form.specs.Steps.Printing.{IsFilled};
 ghost use Rattle.polcert_full_form.specs.Steps.PrintedRows.{row_width, row_rewards, rewarded_text, paid_row_text};
 
 use crate::print_words::{write_head, write_number_at, write_zeros};
-use crate::reward_row::RewardRow;
+use crate::reward_row::WrittenRewards;
 use polcert_cells::Table;
 use polcert_tables::Model;
 use polcert_text::{Sink, SinkFailed, write_all};
@@ -63,7 +63,7 @@ fn write_rewards_from<W: Sink>(
     if !model.has_rewards(action, start) {
         return Ok(());
     }
-    let whole = RewardRow {
+    let whole = WrittenRewards {
         model,
         action,
         start,
@@ -78,7 +78,7 @@ fn write_rewards_from<W: Sink>(
 
 /// Writes the rows of rewards of an action in a state (those of `whole`), one for each end state whose rewards are not all 0.
 fn write_reward_rows<W: Sink>(
-    whole: &RewardRow<'_>,
+    whole: &WrittenRewards<'_>,
     block: &mut [i64; BLOCK],
     out: &mut W,
 ) -> Result<(), SinkFailed>
@@ -86,7 +86,7 @@ fn write_reward_rows<W: Sink>(
         (reward_rows (meaning whole.now.model.now) whole.now.action whole.now.start) result out.new }
 {
     for end in 0..whole.model.states() {
-        let row = RewardRow {
+        let row = WrittenRewards {
             model: whole.model,
             action: whole.action,
             start: whole.start,
@@ -99,7 +99,7 @@ fn write_reward_rows<W: Sink>(
 
 /// Writes a row of rewards, if they are not all 0.
 fn write_reward_row<W: Sink>(
-    row: &RewardRow<'_>,
+    row: &WrittenRewards<'_>,
     block: &mut [i64; BLOCK],
     out: &mut W,
 ) -> Result<(), SinkFailed>
@@ -115,7 +115,7 @@ fn write_reward_row<W: Sink>(
 }
 
 /// Writes the line of the indices of a row of rewards.
-fn write_reward_head<W: Sink>(row: &RewardRow<'_>, out: &mut W) -> Result<(), SinkFailed>
+fn write_reward_head<W: Sink>(row: &WrittenRewards<'_>, out: &mut W) -> Result<(), SinkFailed>
     ensures { WritesText W.writes W.failures out.old
         (reward_head row.now.action row.now.start row.now.end) result out.new }
 {
@@ -127,7 +127,7 @@ fn write_reward_head<W: Sink>(row: &RewardRow<'_>, out: &mut W) -> Result<(), Si
 
 /// Writes the rewards of a row from column `first` on, of which the first block is read.
 fn write_blocks<W: Sink>(
-    row: &RewardRow<'_>,
+    row: &WrittenRewards<'_>,
     first: usize,
     block: &mut [i64],
     out: &mut W,

@@ -13,7 +13,7 @@ use polcert_tables::Model;
 
 /// The rewards of an end state by observation, or, in an MDP, those of all end states.
 #[derive(Drop)]
-pub(crate) struct RewardRow<'a> {
+pub(crate) struct WrittenRewards<'a> {
     pub model: &'a Model,
     pub action: usize,
     pub start: usize,
@@ -23,7 +23,7 @@ pub(crate) struct RewardRow<'a> {
     ghost at_end: { ForSome end (λ e. e < states_of (meaning model.now)) },
 }
 
-impl RewardRow<'_> {
+impl WrittenRewards<'_> {
     ghost use Rattle.polcert_full_form.specs.Steps.PrintedRows.{row_width, row_rewards};
 
     /// Returns how many columns the row has.

@@ -10,7 +10,7 @@ use Rattle.polcert_full_form.specs.Steps.Printing.{zeros_text, reward_columns, p
 use Rattle.polcert_full_form.proofs.Printing.PrintedParts as texts
 use Rattle.polcert_full_form.proofs.Denoting.RowEntries.{test_below}
 use Rattle.polcert_full_form.proofs.Denoting.SameForms.{same_for_each, same_test}
-use Rattle.polcert_full_form.specs.declared.reward_row.RewardRow.{RewardRow}
+use Rattle.polcert_full_form.specs.declared.reward_row.WrittenRewards.{WrittenRewards}
 use Rattle.polcert_full_form.specs.Steps.PrintedRows.{paid_row_text}
 use Rattle.polcert_full_form.proofs.Printing.Runs.{run_after, run_more}
 use Rattle.polcert_full_form.proofs.Denoting.RewardEntries.{zero_is}
@@ -89,7 +89,7 @@ paid_is : (m : Meaning) (a s : ℕ) (end : Option ℕ) → 0 < reward_columns m 
 paid_is m a s (Some e) some paid = texts.paid_is _ (a ∷ s ∷ e ∷ []) (reward_words a s e) _ _ (texts.cell_head a s e) some paid
 paid_is m a s None some paid = texts.paid_is _ (a ∷ s ∷ []) (row_words Reward a s) _ _ (texts.row_head a s) some paid
 
-pub row_paid : (row : RewardRow) (first : ℕ) → IsPaidFrom (row_rewards row) (row_width row) first
+pub row_paid : (row : WrittenRewards) (first : ℕ) → IsPaidFrom (row_rewards row) (row_width row) first
     → reward_head row.action row.start row.end ++ zeros_text 0 first ++ for_each (row_width row - first)
     (λ i. rewarded_text row (first + i)) ++ codes "\n"
     ≡ paid_row_text row
@@ -103,5 +103,5 @@ row_paid row first p =
     ∙ paid_is m _ _ _ (omega arith) p.paid
 
 -- ---- limits of a row
-pub small_rewards : (row : RewardRow) (c : ℕ) → c < row_width row → unsigned_abs (row_rewards row c) ≤ largest
+pub small_rewards : (row : WrittenRewards) (c : ℕ) → c < row_width row → unsigned_abs (row_rewards row c) ≤ largest
 small_rewards row = grind arith

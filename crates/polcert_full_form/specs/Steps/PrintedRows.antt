@@ -7,7 +7,7 @@ use Rattle.polcert_format.specs.FullForm.{for_each, cell_text}
 use Rattle.polcert_full_form.specs.declared.weight_row.WeightRow.{WeightRow}
 use Rattle.polcert_full_form.specs.declared.weight_row.ColumnForm.{ColumnForm}
 use Rattle.polcert_full_form.specs.declared.weight_row.ColumnForm.TheVariants.{Decimals, Cells}
-use Rattle.polcert_full_form.specs.declared.reward_row.RewardRow.{RewardRow}
+use Rattle.polcert_full_form.specs.declared.reward_row.WrittenRewards.{WrittenRewards}
 use Rattle.polcert_full_form.specs.Steps.Printing.{number_text, decimal_text, cell_line, body_text, reward_columns, printed_reward, reward_text, reward_row_text}
 
 -- ---- a row of T or O
@@ -34,16 +34,16 @@ abbrev pub zeros_from : ColumnForm → WeightRow → ℕ → ℕ → List ℕ
 zeros_from form r first count = for_each count (λ i. zero_text form r (first + i))
 
 -- ---- a row of rewards
-abbrev pub row_width : RewardRow → ℕ
+abbrev pub row_width : WrittenRewards → ℕ
 row_width r = reward_columns (meaning r.model.now) r.end
 
 -- its rewards, by column
-abbrev pub row_rewards : RewardRow → ℕ → ℤ
+abbrev pub row_rewards : WrittenRewards → ℕ → ℤ
 row_rewards r = printed_reward (meaning r.model.now) r.action r.start r.end
 
 -- the reward in this column, as the text gives it
-abbrev pub rewarded_text : RewardRow → ℕ → List ℕ
+abbrev pub rewarded_text : WrittenRewards → ℕ → List ℕ
 rewarded_text r = reward_text (meaning r.model.now).preamble.costs (row_rewards r)
 
-abbrev pub paid_row_text : RewardRow → List ℕ
+abbrev pub paid_row_text : WrittenRewards → List ℕ
 paid_row_text r = reward_row_text (meaning r.model.now) r.action r.start r.end

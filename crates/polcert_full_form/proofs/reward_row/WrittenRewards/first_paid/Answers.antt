@@ -2,7 +2,7 @@ use Rattle.std.proofs.Common.{◌∙◌, sym, arith}
 use Rattle.polcert_full_form.proofs.Common.{row_width}
 use Rattle.polcert_full_form.proofs.Printing.PrintedParts.{all_zero}
 use Rattle.polcert_full_form.proofs.Denoting.RewardBlocks.{zero_to, paid_from}
-use Rattle.polcert_full_form.proofs.reward_row.RewardRow.first_paid.Goals as goal
+use Rattle.polcert_full_form.proofs.reward_row.WrittenRewards.first_paid.Goals as goal
 
 pub loop-first-init : goal.loop-first-init
 loop-first-init c = grind arith

@@ -1,6 +1,6 @@
 use Rattle.std.proofs.Common.{◌≡◌, ℕ, ◌+◌, ◌<◌, get_or, pos}
 use Rattle.polcert_full_form.proofs.Common.{meaning}
-use Rattle.polcert_full_form.proofs.reward_row.RewardRow.fill_ends.Given as goal
+use Rattle.polcert_full_form.proofs.reward_row.WrittenRewards.fill_ends.Given as goal
 
 -- the rewards so far
 abbrev pub invariant-loop-i : goal.invariant-loop-i

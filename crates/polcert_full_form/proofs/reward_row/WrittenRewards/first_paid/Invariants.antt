@@ -1,6 +1,6 @@
 use Rattle.std.proofs.Common.{◌≡◌, ◌<◌, ◌≤◌, ◌-◌, ℕ, pos}
 use Rattle.polcert_full_form.proofs.Common.{row_width, row_rewards}
-use Rattle.polcert_full_form.proofs.reward_row.RewardRow.first_paid.Given as goal
+use Rattle.polcert_full_form.proofs.reward_row.WrittenRewards.first_paid.Given as goal
 
 abbrev pub invariant-loop-first : goal.invariant-loop-first
 invariant-loop-first l = record {
