@@ -29,7 +29,7 @@ loop-observation-preserved g c =
           _ _ c.args.node.now.within c.requires.end next.0 next.1
           next.4 c.loop-observation.invariant.sum (search rules) c.observation_value-part.ensures.value).1;
       none = end_more k c.args.node.now.n _ (reached _ c.loop-observation.at) _
-          c.in-Some.observation.weight None _ None next.0 next.4 next.2 next.3
+          _ None _ None next.0 next.4 next.2 next.3
           c.loop-observation.invariant.none c.observation_value-part.ensures.missing none;
       within = omega (arith, c.in-Some.ensures.0.1);
     })
@@ -40,7 +40,7 @@ returns g c =
     let same = c.action-a.ensures.value in
     let none = rw same at c.in_default.ensures in
     record {
-      value = value_done k c.args.node.now.n c.args.e (reached _ c.loop-observation.at) (to_z w128 c.loop-observation.sum-bits)
+      value = value_done k _ _ _ _
           c.loop-observation.invariant.within none c.loop-observation.invariant.sum;
       missing = search rules;
     }

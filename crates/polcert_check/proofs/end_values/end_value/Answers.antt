@@ -24,7 +24,7 @@ loop-observation-preserved g c =
           c.args.node.now.within
           c.requires.end next.0 next.1 next.4 c.loop-observation.invariant.sum (search rules) c.observation_value-part.ensures.value).1;
       least = end_more k c.args.node.now.n _ (reached _ c.loop-observation.at) _
-          c.in-Some.observation.weight _ _ c.min_option-missing.result
+          _ _ _ _
           next.0
           next.4 next.2 next.3 c.loop-observation.invariant.least c.observation_value-part.ensures.missing c.min_option-missing.ensures;
       within = omega (arith, c.in-Some.ensures.0.1);
@@ -36,8 +36,8 @@ returns g c =
     let same = c.action-a.ensures.value in
     let none = rw same at c.in_default.ensures in
     record {
-      value = value_done k c.args.node.now.n c.args.e (reached _ c.loop-observation.at)
-          (to_z w128 c.loop-observation.value-bits) c.loop-observation.invariant.within none c.loop-observation.invariant.sum;
+      value = value_done k _ _ _
+          _ c.loop-observation.invariant.within none c.loop-observation.invariant.sum;
       missing = search rules;
     }
 

@@ -8,5 +8,5 @@ loop-s-preserved g c s e sl el =
     let here = c.is_same_row.ensures _ _ _ (search rules) c.t_row.ensures
     c.t_row-in-loop-s.ensures e el in
     ⊎_elim (λ less. c.loop-s.invariant s e less el)
-    (λ ge. subst (λ (n : ℕ). m.t c.args.a n e ≡ m.t c.args.a 0 e) (sym (omega (arith, sl, ge))) (sym here))
-    (cases_lt s c.loop-s.s)
+    (λ ge. subst (λ n. m.t c.args.a n e ≡ m.t c.args.a 0 e) (sym (omega (arith, sl, ge))) (sym here))
+    (cases_lt s _)

@@ -15,11 +15,11 @@ weigh-requires-clause-product g c =
     let k = node_controller c.args.node.now in
     let v = c.value_of.result in
     let narrow = to_z-of_z w64 v (search rules) in
-    rw (narrow, (to_z-of_z w128 v (search rules)), c.value_of.ensures) (weight_room (seen_weighed k.cells c.args.node.now.input.proper.cells
-    (g.met.C.Cells.is_within_limits c.args.node.now.input.cells.now) _ c.args.e
-    (c.args.node.now.input.proper.closed.actions_in_range _ c.args.node.now.within) c.requires.end) c.args.step.column c.args.step.weight
+    rw (narrow, (to_z-of_z w128 v (search rules)), c.value_of.ensures) (weight_room (seen_weighed _ c.args.node.now.input.proper.cells
+    (g.met.C.Cells.is_within_limits _) _ _
+    (c.args.node.now.input.proper.closed.actions_in_range _ c.args.node.now.within) c.requires.end) _ _
     (k.value c.in-Some.m c.args.e) c.requires.observation c.requires.weight
-    (c.args.node.now.input.values c.in-Some.m c.args.e (c.next.ensures.node c.in-Some.m c.in-Some.is) c.requires.end))
+    (c.args.node.now.input.values _ _ (c.next.ensures.node _ c.in-Some.is) c.requires.end))
 
 pub returns-in-None-clause-missing : goal.returns-in-None-clause-missing
 returns-in-None-clause-missing g c = search rules

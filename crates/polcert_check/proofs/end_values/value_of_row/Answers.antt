@@ -30,7 +30,7 @@ pub loop-end-preserved : goal.loop-end-preserved
 loop-end-preserved g c =
     let next = rw c.action-a.ensures.value at c.in-Some.ensures.0 in
     rw c.in-Some.ensures.1 (record {
-      sum = (expected_step _ c.args.node.now.input.proper (g.met.C.Cells.is_within_limits c.args.node.now.input.cells.now)
+      sum = (expected_step _ c.args.node.now.input.proper (g.met.C.Cells.is_within_limits _)
           c.args.node.now.input.values _ _ c.args.node.now.within c.requires.start _ _ _ _ _ _ next
           c.loop-end.invariant.sum (search rules) (search rules) c.weigh-value.ensures
           (c.requires.value _ _ next.1 (omega (arith, next.2, next.3)) c.value_of-part.ensures).value).1;

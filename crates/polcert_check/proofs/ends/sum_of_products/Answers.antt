@@ -6,12 +6,12 @@ use Rattle.polcert_check.proofs.ends.sum_of_products.Goals as goal
 pub overflow_add-sum : goal.overflow_add-sum
 overflow_add-sum c =
     let f : ℕ → ℤ = λ i. pos (slice_index c.args.numbers.now i) *ℤ slice_index_or c.args.values.now i (pos 0) in
-    (product_more f c.loop-i.i (to_z w128 c.loop-i.sum-bits) c.product-sum.result c.loop-i.invariant.sum c.loop-i.invariant.small
+    (product_more f _ _ c.product-sum.result c.loop-i.invariant.sum c.loop-i.invariant.small
     (omega (arith, c.loop-i-test.true, c.requires.few)) (search rules) (search rules) c.product-sum.ensures.small).0
 
 pub loop-i-preserved : goal.loop-i-preserved
 loop-i-preserved c =
     let f : ℕ → ℤ = λ i. pos (slice_index c.args.numbers.now i) *ℤ slice_index_or c.args.values.now i (pos 0) in
-    let more = product_more f c.loop-i.i (to_z w128 c.loop-i.sum-bits) c.product-sum.result c.loop-i.invariant.sum c.loop-i.invariant.small
+    let more = product_more f _ _ c.product-sum.result c.loop-i.invariant.sum c.loop-i.invariant.small
     (omega (arith, c.loop-i-test.true, c.requires.few)) (search rules) (search rules) c.product-sum.ensures.small in
     record { sum = more.1; small = more.2 }

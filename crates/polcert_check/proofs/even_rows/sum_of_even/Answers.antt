@@ -10,8 +10,8 @@ use Rattle.polcert_check.proofs.even_rows.sum_of_even.Goals as goal
 pub loop-i-init : goal.loop-i-init
 loop-i-init c =
     let (f, count, is) = c.requires in
-    let total : to_z w128 (of_z w128 c.args.total) ≡ c.args.total = to_z-of_z w128 c.args.total (search rules) in
-    let back : to_z w128 (of_z w128 c.weigh-sum.result) ≡ c.weigh-sum.result = to_z-of_z w128 c.weigh-sum.result (search rules) in
+    let total = to_z-of_z w128 c.args.total (search rules) in
+    let back = to_z-of_z w128 c.weigh-sum.result (search rules) in
     record {
       sum = λ f count is. back ∙ c.weigh-sum.ensures ∙ until_none f count _ _ _ _ is;
       small = rw (back, c.weigh-sum.ensures, total) (start_le f count _ _ _ _ is);
@@ -26,8 +26,8 @@ overflow_add-sum c =
     let i = c.loop-i.i in
     let cell = slice_index_or c.args.exceptions.now i (record { column = 0; weight = 0 }) in
     let x = slice_index_or c.args.numbers.now cell.column (pos 0) in
-    let back : to_z w64 (of_z w64 x) ≡ x = to_z-of_z w64 x (search rules) in
-    let value = subst (λ (y : ℤ). c.gain-sum.result ≡ pos cell.weight *ℤ y -ℤ pos c.args.weight *ℤ y) back c.gain-sum.ensures.value in
+    let value = subst (λ (y : ℤ). c.gain-sum.result ≡ pos cell.weight *ℤ y -ℤ pos c.args.weight *ℤ y) (to_z-of_z w64 x (search rules))
+    c.gain-sum.ensures.value in
     let own = subst (λ (t : ℤ). IsEvenSum f count c.args.weight c.args.exceptions.now c.args.numbers.now t)
     (sym (to_z-of_z w128 c.args.total (search rules))) is in
     (even_more f count _ _ _ _ is i (to_z w128 c.loop-i.sum-bits) c.gain-sum.result (search rules) (c.loop-i.invariant.sum f count own)
@@ -44,16 +44,15 @@ loop-i-preserved c =
     let value = subst (λ y. c.gain-sum.result ≡ pos cell.weight *ℤ y -ℤ pos c.args.weight *ℤ y) back c.gain-sum.ensures.value in
     let own = subst (λ t. IsEvenSum f count c.args.weight c.args.exceptions.now c.args.numbers.now t) (sym total) is in
     record {
-      sum = λ f count is. (even_more f count _ _ _ _ is i (to_z w128 c.loop-i.sum-bits) c.gain-sum.result (search rules)
+      sum = λ f count is. (even_more f count _ _ _ _ is i _ _ (search rules)
           (c.loop-i.invariant.sum f count is) c.loop-i.invariant.small (search rules) value c.gain-sum.ensures.small).1;
-      small = (even_more f count _ _ _ _ is i (to_z w128 c.loop-i.sum-bits) c.gain-sum.result (search rules)
+      small = (even_more f count _ _ _ _ is i _ _ (search rules)
           (c.loop-i.invariant.sum f count own) c.loop-i.invariant.small (search rules) value c.gain-sum.ensures.small).2;
     }
 
 pub returns : goal.returns
 returns c f count is =
-    let all : c.loop-i.i ≡ length c.args.exceptions.now = search rules in
     let own = subst (λ (t : ℤ). IsEvenSum f count c.args.weight c.args.exceptions.now c.args.numbers.now t)
     (sym (to_z-of_z w128 c.args.total (search rules))) is in
-    c.loop-i.invariant.sum f count own ∙ ap (until count c.args.weight c.args.exceptions.now c.args.numbers.now) all
+    c.loop-i.invariant.sum f count own ∙ ap (until count c.args.weight c.args.exceptions.now c.args.numbers.now) (search rules)
     ∙ until_all f count _ _ _ _ is

@@ -14,21 +14,23 @@ overflow_mul-scale g c = rw (c.t_scale.ensures, c.o_scale.ensures)
 pub sum_excepted-requires-clause-rewards : goal.sum_excepted-requires-clause-rewards
 sum_excepted-requires-clause-rewards g c =
     let m = g.C.Cells.table _ in (
-      row_weight m c.args.a c.args.s,
-      row_reward m c.args.a c.args.s,
-      m.states * m.observations,
-      2 * largest,
-      row_excepted m (g.met.C.Cells.is_proper _) (g.met.C.Cells.is_within_limits _) c.args.a c.args.s
+      _,
+      _,
+      _,
+      _,
+      row_excepted m (g.met.C.Cells.is_proper _) (g.met.C.Cells.is_within_limits _) _ _
           c.requires.action c.requires.start _ _ _ _
           (λ k weight l post. search rules) (search rules) (search rules) (search rules),
     )
 
 pub returns : goal.returns
 returns g c = λ x e.
-    let m : CellTable = g.C.Cells.table c.args.cells.now in
-    let is : to_z w128 (of_z w128 c.sum_excepted.result) ≡ factored_reward m c.args.a c.args.s =
-    to_z-of_z w128 c.sum_excepted.result (search rules)
-    ∙ c.sum_excepted.ensures _ _ _ _ (row_excepted m (g.met.C.Cells.is_proper c.args.cells.now)
-    (g.met.C.Cells.is_within_limits c.args.cells.now) c.args.a c.args.s c.requires.action c.requires.start _ _ _ _
-    (λ k weight l post. search rules) (search rules) (search rules) (search rules)) ∙ row_total m c.args.a c.args.s in
-    grind (arith, is, e)
+    let m = g.C.Cells.table _ in
+    grind (
+      arith,
+      (to_z-of_z w128 c.sum_excepted.result (search rules)
+          ∙ c.sum_excepted.ensures _ _ _ _ (row_excepted m (g.met.C.Cells.is_proper c.args.cells.now)
+          (g.met.C.Cells.is_within_limits c.args.cells.now) c.args.a c.args.s c.requires.action c.requires.start _ _ _ _
+          (λ k weight l post. search rules) (search rules) (search rules) (search rules)) ∙ row_total m c.args.a c.args.s),
+      e,
+    )

@@ -22,4 +22,4 @@ pub returns-then-stays_in_range-clause-least : goal.returns-then-stays_in_range-
 returns-then-stays_in_range-clause-least g c =
     let fits = constant_fits _ _
     c.args.input.now.are_proper _ (c.if-stays_in_range.ensures.0 refl) in
-    (c.in_ok-by.by, to_z_pos w64 _ fits.sfits, c.in_ok-by.ensures.least, c.if-stays_in_range.ensures.0 refl)
+    (_, to_z_pos w64 _ fits.sfits, c.in_ok-by.ensures.least, c.if-stays_in_range.ensures.0 refl)

@@ -26,7 +26,7 @@ returns-in-Err g c =
     let of = c.new-input.ensures in
     record {
       least = search rules;
-      refused = rw c.raise_of.ensures (not_raised_is k c.args.vectors.now c.in-Err.fault
+      refused = rw c.raise_of.ensures (not_raised_is k _ _
           (rw (of.checked_controller, of.side, of.vectors) at c.in-Err.ensures.refused));
-      small = rw c.raise_of.ensures (small_raise k c.in-Err.fault (rw of.checked_controller at c.in-Err.ensures.small));
+      small = rw c.raise_of.ensures (small_raise k _ (rw of.checked_controller at c.in-Err.ensures.small));
     }

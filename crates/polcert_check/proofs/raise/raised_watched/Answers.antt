@@ -13,8 +13,8 @@ returns-clause-raised g c =
       least = search rules;
       shifted = search rules;
       fits_still = search rules;
-      passes = raised_passes _ _ c.args.vectors.now c.in_ok-raised.raised c.requires.fits
-          (controller_is _ _ _ c.requires.fits (g.met.C.Cells.is_proper c.args.cells.now) c.nodes-nodes.ensures.proper) least.0 least.2.0
+      passes = raised_passes _ _ _ c.in_ok-raised.raised c.requires.fits
+          (controller_is _ _ _ c.requires.fits (g.met.C.Cells.is_proper _) c.nodes-nodes.ensures.proper) least.0 least.2.0
           (λ n s nl sl. c.in_ok-raised.ensures.values n s nl sl
-          ∙ ap (λ (x : ℤ). value_of c.args.vectors.now n s +ℤ x) (to_z-of_z w64 c.in_ok-by.by (search rules) ∙ least.1));
+          ∙ ap (λ x. value_of c.args.vectors.now n s +ℤ x) (to_z-of_z w64 c.in_ok-by.by (search rules) ∙ least.1));
     }

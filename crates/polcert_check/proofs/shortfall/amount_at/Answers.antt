@@ -15,8 +15,8 @@ shortfall-requires-clause-reward g c =
     rw same (expected_reward_le (followed k c.args.node.now.n)
     (followed_is_proper k c.args.node.now.n c.args.node.now.input.proper.cells)
     (followed_is_within k c.args.node.now.n (g.met.C.Cells.is_within_limits _))
-    (k.action c.args.node.now.n)
-    c.args.s (c.args.node.now.input.proper.closed.actions_in_range _ c.args.node.now.within) c.requires.start)
+    _
+    _ (c.args.node.now.input.proper.closed.actions_in_range _ c.args.node.now.within) c.requires.start)
 
 pub shortfall-requires-clause-expected : goal.shortfall-requires-clause-expected
 shortfall-requires-clause-expected g c = grind (arith, to_z-of_z, expected_value_le)

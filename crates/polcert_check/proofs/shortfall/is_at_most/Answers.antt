@@ -5,12 +5,12 @@ use Rattle.polcert_check.proofs.shortfall.is_at_most.Goals as goal
 
 pub overflow_mul-result : goal.overflow_mul-result
 overflow_mul-result c = rw (to_z-of_z w64 c.args.number c.ranges.number, to_z-of_z w64 c.from.result (search rules), c.from.ensures)
-    (product_fits c.args.weight c.args.number c.requires.weight c.requires.number)
+    (product_fits _ _ c.requires.weight c.requires.number)
 
 pub returns : goal.returns
 returns c test =
     let number = to_z-of_z w64 _ c.ranges.number in
     let other = to_z-of_z w64 _ c.ranges.other in
     let weight = to_z-of_z w64 _ (search rules) ∙ c.from.ensures in
-    product_le c.args.weight c.args.other_weight c.args.number c.args.other c.requires.weight c.requires.other_weight c.requires.number
+    product_le _ _ _ _ c.requires.weight c.requires.other_weight c.requires.number
     c.requires.other (rw (weight, number, (to_z-of_z w64 c.from-2.result (search rules) ∙ c.from-2.ensures), other) at test)

@@ -8,8 +8,8 @@ use Rattle.polcert_check.proofs.shortfall.is_clearly_backed.Goals as goal
 
 pub upper_bits-lead-requires : goal.upper_bits-lead-requires
 upper_bits-lead-requires c =
-    (lead_is c.args.step_scale c.args.value c.args.reward c.weigh.result c.requires.scale c.requires.value c.requires.reward (search rules)
-    c.ranges.reward (weighed_is c.args.step_scale c.args.step_scale c.weigh.result (to_z w64 (of_z w64 c.args.value)) c.args.value
+    (lead_is _ _ _ _ c.requires.scale c.requires.value c.requires.reward (search rules)
+    c.ranges.reward (weighed_is _ _ _ _ _
     (search rules) c.weigh.ensures refl (to_z-of_z w64 c.args.value c.ranges.value))).0
 
 pub returns-in-Below : goal.returns-in-Below

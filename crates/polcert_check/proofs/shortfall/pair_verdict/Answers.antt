@@ -36,7 +36,7 @@ returns-in-Some g c = (
   refl,
   refl,
   rw c.in-Some.is at
-      (pair_lacking (node_controller c.args.node.now) c.args.node.now.n c.args.s _ c.requires.expected.missing),
+      (pair_lacking (node_controller c.args.node.now) _ _ _ c.requires.expected.missing),
 )
 
 pub is_clearly_backed-requires-clause-scale : goal.is_clearly_backed-requires-clause-scale

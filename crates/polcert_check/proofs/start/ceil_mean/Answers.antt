@@ -7,6 +7,6 @@ pub returns : goal.returns
 returns c =
     let sum = c.args.sum in
     let q = c.floor_quotient.result in
-    subst (IsCeilQuotient sum c.args.total) (sym (neg_quotient_is q c.floor_quotient.ensures.small))
-    (ceil_is sum _ q (subst (λ x. IsFloorQuotient x c.args.total q) (neg_sum_is c.args.total sum c.requires.few c.requires.small)
+    subst (IsCeilQuotient sum _) (sym (neg_quotient_is q c.floor_quotient.ensures.small))
+    (ceil_is sum _ q (subst (λ x. IsFloorQuotient x c.args.total q) (neg_sum_is _ sum c.requires.few c.requires.small)
     c.floor_quotient.ensures.floor))

@@ -9,5 +9,5 @@ loop-a-init g c = grind (arith, nothing_found)
 
 pub returns-clause-found : goal.returns-clause-found
 returns-clause-found g c =
-    all_walked (checked_controller c.args.input.now) (sided_proper c.args.input.now.side (input_controller c.args.input.now)
-    c.args.input.now.proper).closed c.loop-a.a c.loop-a.survey.findings c.loop-a.invariant.found (omega (arith, c.actions-a-end.ensures))
+    all_walked _ (sided_proper _ _
+    c.args.input.now.proper).closed _ _ c.loop-a.invariant.found (omega (arith, c.actions-a-end.ensures))

@@ -28,5 +28,5 @@ loop-n-preserved g c =
 
 pub returns-clause-found : goal.returns-clause-found
 returns-clause-found g c =
-    action_done (checked_controller c.args.input.now) c.args.a c.loop-n.n c.loop-n.survey.findings c.loop-n.invariant.found
+    action_done _ _ _ _ c.loop-n.invariant.found
     (omega (arith, c.nodes-n-end.ensures.count))

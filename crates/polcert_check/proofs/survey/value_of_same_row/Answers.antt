@@ -6,4 +6,4 @@ use Rattle.polcert_check.proofs.survey.value_of_same_row.Goals as goal
 pub returns : goal.returns
 returns g c =
     expected_same (node_controller c.args.node.now) c.args.node.now.n c.args.other c.args.s c.args.value
-    (λ e el. c.requires.same c.args.other e c.requires.other el ∙ sym (c.requires.same c.args.s e c.requires.start el)) c.requires.value
+    (λ e el. c.requires.same _ e c.requires.other el ∙ sym (c.requires.same _ e c.requires.start el)) c.requires.value

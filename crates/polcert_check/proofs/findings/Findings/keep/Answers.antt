@@ -14,9 +14,9 @@ returns-in-Check-clause-found c = grind (arith, noted_failure, next_pair)
 
 pub returns-in-Lowering-clause-found : goal.returns-in-Lowering-clause-found
 returns-in-Lowering-clause-found c = λ k s pair checked_controller is.
-    noted_short k (IsWalked k (k.action c.args.n) c.args.n s) (IsWalked k (k.action c.args.n) c.args.n (s + 1)) c.args.n s
-    (next_pair k c.args.n s pair) c.args.self.now is c.in-Short.node c.in-Short.state c.in-Short.amount c.earlier-self-in-Lowering.result
-    c.unsigned_abs.result c.greater-self.result c.in-Lowering.is
+    noted_short k _ _ _ s
+    (next_pair k _ s pair) _ is _ _ _ _
+    _ _ c.in-Lowering.is
     (rw c.in-Short.is at checked_controller) c.earlier-self-in-Lowering.ensures
     (c.unsigned_abs.ensures.value ∙ ap unsigned_abs (to_z-of_z w128 c.in-Short.amount (search rules))) c.greater-self.ensures.left
     c.greater-self.ensures.right c.greater-self.ensures.is_one
