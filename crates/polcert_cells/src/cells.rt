@@ -2,12 +2,12 @@
 ghost use Rattle.std.specs.Prelude.{◌≡◌, ℕ, ◌<◌, ◌≤◌, ◌+◌, IsTrue, length, pos, slice_index_or, ◌*◌, None};
 ghost use Rattle.std.specs.Prelude.{slice_index};
 ghost use Rattle.std.specs.Option.{ForSome};
-ghost use Rattle.polcert_cells.specs.CommonRewards.{IsCommonReward, AreEndRewards, row_reward};
+ghost use Rattle.polcert_cells.specs.CommonRewards.{IsCommonReward, IsRewardRow, AreEndRewards, row_reward};
 ghost use Rattle.polcert_cells.specs.Tables.{CellTable, IsProper, IsWithinLimits};
 ghost use Rattle.polcert_cells.specs.BorrowedRows.{IsRowOf, IsStep};
 ghost use Rattle.polcert_cells.specs.Sparse.{AreRising, excepted_weight};
 
-use crate::{Cell, CommonReward, RewardCell};
+use crate::{Cell, CommonReward, RewardCell, RewardRow};
 
 /// The cells of a model, its counts and its scales, as a check reads them.
 ///
@@ -100,20 +100,23 @@ pub trait Cells {
         }
     }
 
-    /// Returns the reward that all observations but a few have when action `a` is taken in state `s` and ends in state `e`, and fills in
-    /// the rewards of these few, if they are known at once. `None`: unknown.
+    /// Returns what gives the rewards of all observations but a few when action `a` is taken in state `s` and ends in state `e`, fills in
+    /// the rewards of these few, and says up to which end state all have the same rewards, if they are known at once. `None`: unknown.
     fn find_rewards(
         &self,
         a: usize,
         s: usize,
         e: usize,
         exceptions: &mut [RewardCell],
-    ) -> Option<CommonReward>
+    ) -> Option<RewardRow<'_>>
         requires action { a < (table self.now).actions }
         requires start { s < (table self.now).states }
         requires end { e < (table self.now).states }
-        ensures { ForSome result (λ common. IsCommonReward ((table self.now).r a s e)
-            (table self.now).observations common exceptions.new) }
+        ensures row { ForSome result (λ row. IsRewardRow ((table self.now).r a s e)
+            (table self.now).observations row exceptions.new) }
+        ensures until { ForSome result (λ row. (f z : ℕ) → e ≤ f → f < row.until →
+            f < (table self.now).states → z < (table self.now).observations →
+            (table self.now).r a s f z ≡ (table self.now).r a s e z) }
     {
         None
     }

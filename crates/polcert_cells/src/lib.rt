@@ -8,7 +8,7 @@ mod entries;
 mod words;
 
 pub use cells::{Cells, Row, Step, excepted_weight, first_weight};
-pub use common_reward::{CommonReward, RewardCell};
+pub use common_reward::{BaseRewards, CommonReward, RewardCell, RewardRow};
 pub use elements::{
     Cell, Elements, Kind, MOST_ACTIONS, MOST_ELEMENTS, MOST_OBSERVATIONS, MOST_STATES, Names, ONE,
     StartWeights,

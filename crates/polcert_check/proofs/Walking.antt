@@ -9,6 +9,7 @@ pub mod Listed
 pub mod Marking
 pub mod Missing
 pub mod Outcomes
+pub mod Overlaid
 pub mod Products
 pub mod RowOfBoth
 pub mod Runs

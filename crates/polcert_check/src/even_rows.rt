@@ -1,5 +1,7 @@
 //! Sums over a row that has the same weight in all columns but for exceptions: all numbers are weighed at once, and then the exceptions.
-ghost use Rattle.std.specs.Prelude.{◌≡◌, ◌*◌, ◌^◌, ◌<◌, ◌≤◌, ◌+◌, ℕ, ℤ, pos, ◌*ℤ◌, ◌-ℤ◌, unsigned_abs, slice_index_or};
+ghost use Rattle.std.specs.Prelude.{◌≡◌, ◌*◌, ◌^◌, ◌<◌, ◌≤◌, ◌+◌, ℕ, ℤ, pos, ◌*ℤ◌, ◌-ℤ◌, unsigned_abs, length, slice_index_or};
+ghost use Rattle.polcert_cells.specs.Elements.{most_elements};
+ghost use Rattle.polcert_text.specs.Numbers.{largest};
 ghost use Rattle.polcert_check.specs.Horizon.{total_below};
 ghost use Rattle.polcert_check.specs.Steps.Products.{IsEvenSum};
 
@@ -13,6 +15,21 @@ pub(crate) fn wide(number: i64) -> i128
     ensures small { unsigned_abs result ≤ 2 ^ 63 }
 {
     number as i128
+}
+
+/// Returns the sum of the first numbers.
+pub(crate) fn total_of(numbers: &[i64], count: usize) -> i64
+    requires few { count ≤ most_elements }
+    requires room { count ≤ length numbers.now }
+    requires limited { (z : ℕ) → z < count → unsigned_abs (slice_index_or numbers.now z (pos 0)) ≤ largest }
+    ensures sum { result ≡ total_below (λ c. slice_index_or numbers.now c (pos 0)) count }
+    ensures small { unsigned_abs result ≤ count * largest }
+{
+    let mut sum: i64 = 0;
+    for i in 0..count {
+        sum += numbers[i];
+    }
+    sum
 }
 
 /// Returns by how much a number has more weight than if it had the common one.

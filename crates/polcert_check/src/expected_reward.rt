@@ -1,16 +1,20 @@
 //! The reward that an action expects at a state, shared by start states that no reward tells apart.
 ghost use Rattle.std.specs.Prelude.{◌≡◌, ℕ, ◌*◌, ◌^◌, ◌<◌, ◌≤◌, ℤ, pos, ◌*ℤ◌, unsigned_abs, length};
 ghost use Rattle.std.specs.Prelude.{IsTrue, slice_index_or};
-ghost use Rattle.polcert_check.specs.Steps.Exceptions.{AreExcepted, AreBefore, row_weight, weighed_total};
+ghost use Rattle.polcert_check.specs.Steps.Exceptions.{AreExcepted, AreListedBut, AreBefore, row_weight};
+ghost use Rattle.polcert_check.specs.Steps.Exceptions.{weighed_total};
 ghost use Rattle.polcert_check.specs.Steps.Ranges.{most_sum};
 ghost use Rattle.polcert_check.specs.Steps.Factored.{reward_at_end, factored_reward, AreKnown, AreAtEnds, IsEndRun};
 ghost use Rattle.polcert_cells.specs.declared.elements.TheConstants.{MOST_STATES, MOST_OBSERVATIONS};
-ghost use Rattle.polcert_cells.specs.CommonRewards.{cell_at, AreEndRewards, AreOrdered, IsCommonReward};
+ghost use Rattle.polcert_cells.specs.CommonRewards.{cell_at, AreEndRewards, AreOrdered, IsCommonReward, IsRewardRow};
 ghost use Rattle.std.specs.Option.{ForSome};
 
 use crate::end_values::{next_end, next_observation};
+use crate::even_rows::{sum_of_even, total_of, wide};
 use crate::survey::Progress;
-use polcert_cells::{Cells, CommonReward, MOST_OBSERVATIONS, MOST_STATES, RewardCell, Row};
+use polcert_cells::{
+    BaseRewards, Cells, CommonReward, MOST_OBSERVATIONS, MOST_STATES, RewardCell, RewardRow, Row,
+};
 
 /// Reading the rewards of this many observations together takes about as long as asking for one.
 const READ_PER_QUERY: usize = 64;
@@ -107,30 +111,48 @@ fn sum_excepted<F: Fn(usize) -> u64>(
     sum
 }
 
-/// Returns the reward at end state `e`, and up to which end state the rewards are the same. `None`: more observations than there is room
-/// for have another reward than the common one, or they are not known at once.
-fn run_of_few<C: Cells>(
-    cells: &C,
-    a: usize,
-    s: usize,
-    e: usize,
-    exceptions: &mut [RewardCell],
-) -> Option<EndRun>
+/// Returns the reward at end state `e`, of which these are the rewards of all observations.
+fn sum_filled<C: Cells>(cells: &C, a: usize, s: usize, e: usize, rewards: &[i64]) -> i128
     requires action { a < (C.table cells.now).actions }
     requires start { s < (C.table cells.now).states }
     requires end { e < (C.table cells.now).states }
-    ensures here { ForSome result (λ run. run.reward ≡ reward_at_end (C.table cells.now) a s e) }
-    ensures run { ForSome result (IsEndRun (C.table cells.now) a s) }
+    requires room { (C.table cells.now).observations ≤ length rewards.now }
+    requires rewards { (z : ℕ) → z < (C.table cells.now).observations →
+        slice_index_or rewards.now z (pos 0) ≡ (C.table cells.now).r a s e z }
+    ensures { result ≡ reward_at_end (C.table cells.now) a s e }
 {
-    let most = exceptions.len().min(MOST_EXCEPTIONS);
-    let few = &mut exceptions[..most];
-    let common = cells.find_rewards(a, s, e, few)?;
-    Some(EndRun {
-        end: e,
-        until: cells.same_rewards_until(a, s, e),
-        reward: sum_excepted(cells.o_scale(), common, few, |z| cells.o(a, e, z)),
-        is_constant: common.exceptions == 0,
-    })
+    match cells.o_row(a, e) {
+        Some(
+            Row::Even {
+                weight,
+                exceptions,
+                ..
+            },
+        ) => sum_of_even(
+            weight,
+            exceptions,
+            rewards,
+            wide(total_of(rewards, cells.observations())),
+        ),
+        _ => sum_over_observations(cells, a, s, e, |z| rewards[z]),
+    }
+}
+
+/// Fills in the rewards of a list, except those of its exceptions, which are given.
+fn fill_listed(list: &[i64], count: usize, exceptions: &[RewardCell], rewards: &mut [i64])
+    requires room { length list.now ≤ length rewards.old }
+    requires exceptions { count ≤ length exceptions.now }
+    requires within { (k : ℕ) → k < count → (cell_at exceptions.now k).observation < length list.now }
+    ensures { (r : ℕ → ℤ) → AreListedBut list.now r count exceptions.now →
+        (z : ℕ) → z < length list.now → slice_index_or rewards.new z (pos 0) ≡ r z }
+{
+    for i in 0..list.len() {
+        rewards[i] = list[i];
+    }
+    for k in 0..count {
+        let cell = exceptions[k];
+        rewards[cell.observation] = cell.reward;
+    }
 }
 
 /// Returns the reward that action `a` expects at state `s`, summed over its end states: the general way, called if neither `sum_row` nor
@@ -364,9 +386,6 @@ impl Earnings {
     }
 }
 
-/// The most exceptions of the reward that an end state's observations have in common; with more, all rewards are read.
-const MOST_EXCEPTIONS: usize = 64;
-
 /// The most exceptions of the reward that all end states of a start state have in common.
 const MOST_IN_ROW: usize = 1_024;
 
@@ -468,14 +487,55 @@ impl RewardBuffer {
         ensures here { result.reward ≡ reward_at_end (C.table cells.now) a s e }
         ensures run { IsEndRun (C.table cells.now) a s result }
     {
-        match run_of_few(cells, a, s, e, &mut self.exceptions) {
-            Some(run) => run,
+        match cells.find_rewards(a, s, e, &mut self.exceptions) {
+            Some(row) => EndRun {
+                end: e,
+                until: row.until,
+                reward: self.sum_of_row(cells, a, s, e, row),
+                is_constant: row.constant().is_some(),
+            },
             None => EndRun {
                 end: e,
                 until: cells.same_rewards_until(a, s, e),
                 reward: sum_rewards(cells, a, s, e, self),
                 is_constant: false,
             },
+        }
+    }
+
+    /// Returns the reward that action `a` expects at start state `s` and end state `e`, by what `find_rewards` has found there.
+    fn sum_of_row<C: Cells>(
+        &mut self,
+        cells: &C,
+        a: usize,
+        s: usize,
+        e: usize,
+        row: RewardRow<'_>,
+    ) -> i128
+        requires action { a < (C.table cells.now).actions }
+        requires start { s < (C.table cells.now).states }
+        requires end { e < (C.table cells.now).states }
+        requires row { IsRewardRow ((C.table cells.now).r a s e) (C.table cells.now).observations row
+            self.old.exceptions }
+        ensures { result ≡ reward_at_end (C.table cells.now) a s e }
+    {
+        match row.base {
+            BaseRewards::Common(reward) => {
+                let common = CommonReward {
+                    reward,
+                    exceptions: row.exceptions,
+                };
+                sum_excepted(
+                    cells.o_scale(),
+                    common,
+                    &self.exceptions,
+                    |z| cells.o(a, e, z),
+                )
+            }
+            BaseRewards::Listed(list) => {
+                fill_listed(list, row.exceptions, &self.exceptions, &mut self.rewards);
+                sum_filled(cells, a, s, e, &self.rewards)
+            }
         }
     }
 
@@ -493,8 +553,7 @@ impl RewardBuffer {
         ensures { result ≡ reward_at_end (C.table cells.now) a s e }
     {
         cells.fill_rewards(a, s, e, 0, &mut self.rewards);
-        let rewards = &self.rewards;
-        sum_over_observations(cells, a, s, e, |z| rewards[z])
+        sum_filled(cells, a, s, e, &self.rewards)
     }
 }
 

@@ -180,7 +180,7 @@ pub(crate) fn known_reward_of<C: Cells>(cells: &C, a: usize, s: usize, e: usize)
     ensures { ForSome result (IsKnownReward (C.table cells.now) a s e) }
 {
     match cells.find_rewards(a, s, e, &mut []) {
-        Some(common) => Some(common.reward),
+        Some(row) => row.constant(),
         None => None,
     }
 }

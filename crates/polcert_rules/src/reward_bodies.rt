@@ -1,5 +1,7 @@
 //! The bodies of entries of R, in one list of numbers.
-ghost use Rattle.std.specs.Prelude.{◌≡◌, ◌<◌, ◌≤◌, ◌+◌, ◌++◌, All, map, get_or, drop, pos, IfOk, OnOk, slice_get};
+ghost use Rattle.std.specs.Prelude.{◌≡◌, ◌<◌, ◌≤◌, ◌+◌, ◌++◌, ℕ, All, length, map, get_or, drop, pos, IfOk, OnOk, slice_get};
+ghost use Rattle.std.specs.Prelude.{slice_index_or};
+ghost use Rattle.std.specs.Option.{ForSome};
 ghost use Rattle.polcert_cells.specs.Elements.{most_states, most_elements};
 ghost use Rattle.polcert_rules.specs.Keys.{key_base};
 ghost use Rattle.polcert_rules.specs.Steps.Rewards.{worth, AreBodiesOf};
@@ -44,6 +46,21 @@ impl RewardBodies {
             Some(place) => self.numbers.get(place).copied().unwrap_or(0),
             None => 0,
         }
+    }
+
+    /// Returns this many numbers of a body, from a cell on. `None`: there are fewer numbers.
+    pub(crate) fn numbers_from(&self, body: RewardBody, cell: usize, count: usize) -> Option<&[i64]>
+        ensures size { ForSome result (λ list. length list.now ≡ count) }
+        ensures numbers { ForSome result (λ list. (z : ℕ) → z < count →
+            slice_index_or list.now z (pos 0)
+            ≡ get_or self.now.numbers.items (body.start + (cell + z)) (pos 0)) }
+    {
+        let first = body.start.checked_add(cell)?;
+        let end = first.checked_add(count)?;
+        if self.numbers.len() < end {
+            return None;
+        }
+        Some(&self.numbers.as_slice()[first..end])
     }
 }
 

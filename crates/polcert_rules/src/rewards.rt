@@ -9,8 +9,9 @@ ghost use Rattle.polcert_cells.specs.Elements.{count_of};
 ghost use Rattle.polcert_cells.specs.Preamble.{Preamble, dimensions};
 ghost use Rattle.polcert_cells.specs.Steps.Sound.{IsSoundEntry};
 ghost use Rattle.polcert_cells.specs.Cells.{reward};
-ghost use Rattle.polcert_cells.specs.CommonRewards.{IsCommonReward, AreOrdered};
-ghost use Rattle.polcert_rules.specs.Steps.NamedCells.{AreNewestAt, AreNamedCells};
+ghost use Rattle.polcert_cells.specs.CommonRewards.{HasBase, IsCommonReward, IsRewardRow, AreOrdered, base_reward};
+ghost use Rattle.polcert_rules.specs.Steps.FittingRules.{AreFitting};
+ghost use Rattle.polcert_rules.specs.Steps.NamedCells.{AreNewestAt, AreNamedCells, cell_of};
 ghost use Rattle.polcert_rules.specs.Steps.CellRules.{AreCellRules, AreCellsOf, AreProperCells};
 ghost use Rattle.std.specs.Prelude.{◌*◌, ◌/◌, ◌%◌};
 ghost use Rattle.polcert_rules.specs.Steps.Meeting.{meets_row};
@@ -20,11 +21,12 @@ ghost use Rattle.polcert_rules.specs.Steps.Rewards.{IsRewardShapeOf, IsSmall, Ar
 ghost use Rattle.polcert_rules.specs.Steps.RewardSearch.{AreFilled, AreWithin, IsLastBody, IsSingle};
 
 use crate::Index;
+use crate::fitting_rules::FittingRules;
 use crate::index::{MOST_PLACES, max_option};
 use crate::named_rules::NamedRules;
 use crate::reward_bodies::{RewardBodies, cell_in, indices_after};
 use crate::row_rules::{CellRules, RowRules, cell_named};
-use polcert_cells::{CommonReward, Entries, RewardBody, RewardCell};
+use polcert_cells::{BaseRewards, CommonReward, Entries, RewardBody, RewardCell, RewardRow};
 use std::alloc::{AllocError, Global};
 use std::marker::Model;
 
@@ -80,13 +82,6 @@ impl Rewards {
             rules,
             bodies,
         })
-    }
-
-    /// Returns how many elements of each kind the rewards are for. Nothing calls it.
-    pub fn shape(&self) -> RewardShape
-        ensures { result ≡ self.now.shape }
-    {
-        self.shape
     }
 
     /// Returns the reward, in millionths, when this action is taken in the start state, ends in the end state
@@ -186,21 +181,27 @@ impl Rewards {
         }
     }
 
-    /// Returns the reward that all observations but a few have if this action is taken in the start state and ends in the end state, and
-    /// fills in the rewards of these few. `None`: entries name more observations than there is room for, or give more than one number.
+    /// Returns what gives all observations but a few their rewards if this action is taken in the start state and ends in the end state,
+    /// fills in the rewards of these few, and says up to which end state all are the same (see `same_until`). `None`: entries name more
+    /// observations than there is room for.
     pub fn find(
         &self,
         action: usize,
         start: usize,
         end: usize,
         exceptions: &mut [RewardCell],
-    ) -> Option<CommonReward>
+    ) -> Option<RewardRow<'_>>
         requires action { action < self.now.shape.actions }
         requires start { start < self.now.shape.states }
         requires end { end < self.now.shape.states }
-        ensures { (p : Preamble) (entries : List E) → AreRewardsOf p entries self.now →
-            ForSome result (λ common. IsCommonReward (λ z. reward p entries (action ∷ start ∷ end ∷ z ∷ []))
-            self.now.shape.observations common exceptions.new) }
+        ensures row { (p : Preamble) (entries : List E) → AreRewardsOf p entries self.now →
+            ForSome result (λ row. IsRewardRow (λ z. reward p entries (action ∷ start ∷ end ∷ z ∷ []))
+            self.now.shape.observations row exceptions.new) }
+        ensures until { (p : Preamble) (entries : List E) → AreRewardsOf p entries self.now →
+            ForSome result (λ row. (f z : ℕ) → end ≤ f → f < row.until →
+            f < self.now.shape.states → z < self.now.shape.observations →
+            reward p entries (action ∷ start ∷ f ∷ z ∷ [])
+            ≡ reward p entries (action ∷ start ∷ end ∷ z ∷ [])) }
     {
         let at = StateTransition { action, start, end };
         let mut list = NamedRules::new();
@@ -208,17 +209,55 @@ impl Rewards {
         if !rules.note_named(end, &mut list) {
             return None;
         }
-        let whole = self.body_of(list.whole);
-        let Some(reward) = self.single_number(whole) else {
+        let Some(base) = self.base_of(self.body_of(list.whole), at) else {
             return None;
         };
         if !self.fill_named(at, &list, exceptions) {
             return None;
         }
-        Some(CommonReward {
-            reward,
+        Some(RewardRow {
+            base,
             exceptions: list.count,
+            until: self.until_of(&rules, at),
         })
+    }
+
+    /// Returns what gives the observations their rewards where a body does.
+    fn base_of(&self, body: Option<RewardBody>, at: StateTransition) -> Option<BaseRewards<'_>>
+        requires action { at.action < self.now.shape.actions }
+        requires start { at.start < self.now.shape.states }
+        requires end { at.end < self.now.shape.states }
+        ensures size { ForSome result (λ base. HasBase base self.now.shape.observations) }
+        ensures rewards { (p : Preamble) (entries : List E) → AreRewardsOf p entries self.now →
+            ForSome result (λ base. (z : ℕ) → z < self.now.shape.observations →
+            IsLastBody p.costs entries self.now.numbers (cell_of at z) body →
+            reward p entries (cell_of at z) ≡ base_reward base z) }
+    {
+        match self.single_number(body) {
+            Some(reward) => Some(BaseRewards::Common(reward)),
+            None => Some(BaseRewards::Listed(self.numbers_of(body?, at)?)),
+        }
+    }
+
+    /// Returns the numbers that a body of more than one gives the observations, in order.
+    fn numbers_of(&self, body: RewardBody, at: StateTransition) -> Option<&[i64]>
+        requires action { at.action < self.now.shape.actions }
+        requires start { at.start < self.now.shape.states }
+        requires end { at.end < self.now.shape.states }
+        ensures size { ForSome result (λ list. length list.now ≡ self.now.shape.observations) }
+        ensures rewards { (p : Preamble) (entries : List E) → AreRewardsOf p entries self.now →
+            ForSome result (λ list. (z : ℕ) → z < self.now.shape.observations →
+            IsLastBody p.costs entries self.now.numbers (cell_of at z) (Some body) →
+            reward p entries (cell_of at z) ≡ slice_index_or list.now z (pos 0)) }
+    {
+        if body.places == 0 || body.places >= MOST_PLACES {
+            return None;
+        }
+        let indices = [at.action, at.start, at.end, 0];
+        let left = indices_after(body.places, &indices);
+        let first = cell_in(self.shape.states, self.shape.observations, left);
+        self.bodies
+            .numbers_from(body, first, self.shape.observations)
     }
 
     /// Fills in the rewards of the observations that rules name. Returns whether there is room, and each of them is one of the model's.
@@ -356,10 +395,26 @@ impl Rewards {
             ≡ reward p entries (action ∷ start ∷ end ∷ observation ∷ []) }
     {
         let rules = self.rules.fitting(action, start);
+        self.until_of(&rules, StateTransition { action, start, end })
+    }
+
+    /// Returns what `same_until` does, by the rules that fit the action and the start state.
+    fn until_of(&self, rules: &FittingRules<'_>, at: StateTransition) -> usize
+        requires shape { IsSmall self.now.shape }
+        requires action { at.action < self.now.shape.actions }
+        requires start { at.start < self.now.shape.states }
+        requires end { at.end < self.now.shape.states }
+        requires fitting { AreFitting self.now.rules at.action at.start rules.now }
+        ensures { (p : Preamble) (entries : List E) → AreRewardsOf p entries self.now →
+            (f observation : ℕ) → at.end ≤ f → f < result → f < self.now.shape.states →
+            observation < self.now.shape.observations →
+            reward p entries (at.action ∷ at.start ∷ f ∷ observation ∷ [])
+            ≡ reward p entries (at.action ∷ at.start ∷ at.end ∷ observation ∷ []) }
+    {
         if rules.newest(&[]).is_some() {
-            return end;
+            return at.end;
         }
-        rules.same_until(end)
+        rules.same_until(at.end)
     }
 
     /// Tests whether any entry of R is about this action and start state. If none is, all rewards are 0. The full form asks, to leave rows

@@ -3,7 +3,9 @@ ghost use Rattle.std.specs.Prelude.{◌≡◌, ◌<◌, IfOk};
 ghost use Rattle.polcert_rules.specs.Keys.{key_base, AreDigits, digit, most_places};
 
 use crate::kept::push_if_kept;
-use polcert_cells::{Body, Entries, Entry, Place, Places, RewardCell, Sequence, Table};
+use polcert_cells::{
+    BaseRewards, Body, Entries, Entry, Place, Places, RewardCell, Sequence, Table,
+};
 use polcert_rules::{Index, RewardShape, Rewards};
 use std::alloc::{AllocError, Global};
 
@@ -332,8 +334,31 @@ fn alike_at(
         Err(_) => return None,
     };
     match rewards.find(action, start, end, &mut []) {
-        Some(common) => Some(Some(common.reward)),
+        Some(row) => Some(row.constant()),
         None => Some(None),
+    }
+}
+
+/// The rewards of the first two observations, if they are found in a list without an exception.
+fn listed_at(
+    alloc: Global,
+    lines: &[(&[usize], &[i64])],
+    action: usize,
+    start: usize,
+    end: usize,
+) -> Option<[Option<i64>; 2]>
+    requires action { action < 2 }
+    requires start { start < 2 }
+    requires end { end < 2 }
+{
+    let rewards = match rewards(alloc, false, lines) {
+        Ok(rewards) => rewards,
+        Err(_) => return None,
+    };
+    let row = rewards.find(action, start, end, &mut [])?;
+    match row.base {
+        BaseRewards::Listed(list) => Some([list.get(0).copied(), list.get(1).copied()]),
+        BaseRewards::Common(_) => None,
     }
 }
 
@@ -360,6 +385,10 @@ fn rewards_alike(rt: HostRuntime) {
     assert_eq!(rt; alike_at(alloc, &lines, 1, 1, 0), Some(None));
     assert_eq!(rt; alike_at(alloc, &lines, 0, 1, 0), Some(None));
     assert_eq!(rt; alike_at(alloc, &lines, 0, 1, 1), Some(Some(0)));
+    assert_eq!(rt; listed_at(alloc, &lines, 1, 1, 0), Some([Some(3), Some(4)]));
+    assert_eq!(rt; listed_at(alloc, &lines, 1, 1, 1), Some([Some(5), Some(6)]));
+    assert_eq!(rt; listed_at(alloc, &lines, 1, 0, 1), None);
+    assert_eq!(rt; listed_at(alloc, &lines, 0, 1, 0), None);
 }
 
 fn same_at(alloc: Global, lines: &[Line], at: [usize; 3]) -> Option<bool> {

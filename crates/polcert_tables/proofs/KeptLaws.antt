@@ -23,6 +23,8 @@ use Rattle.polcert_rules.proofs.RewardLaws.RewardAt.{reward_is}
 use Rattle.polcert_cells.specs.Steps.Sound.{IsSound}
 use Rattle.polcert_rules.specs.Steps.Shapes.{AreSound}
 use Rattle.polcert_cells.specs.Steps.Drafts as drafts
+use Rattle.polcert_cells.specs.CommonRewards.{HasBase, IsRewardRow}
+use Rattle.polcert_cells.specs.declared.common_reward.RewardRow.{RewardRow}
 
 same_cell : (p : Preamble) (entries : List Entry) (table : Table) (t : RowTable) → AreRowsOf p entries table t
     → (a s c : ℕ) → a < count_of p.actions → s < count_of p.states → c < columns p table
@@ -107,28 +109,31 @@ module _ (k : Kept) (d : IsKeptModel k) where
   rewards_seen : is_mdp k.preamble ≡ false → k.rewards.shape.observations ≡ count_of (observed k.preamble)
   rewards_seen pomdp = sym d.r_counts.observations ∙ same_count k.preamble pomdp
 
-  pub model_common_reward : (a s e : ℕ) (found : Option CommonReward) (cells : List RewardCell) → a < count_of k.preamble.actions
+  pub model_reward_row : (a s e : ℕ) (found : Option RewardRow) (cells : List RewardCell) → a < count_of k.preamble.actions
       → s < count_of k.preamble.states → e < count_of k.preamble.states
       → is_mdp k.preamble ≡ false
       → ((p : Preamble) (entries : List Entry) → AreRewardsOf p entries k.rewards
-      → ForSome found (λ common. IsCommonReward (λ z. reward p entries (a ∷ s ∷ e ∷ z ∷ [])) k.rewards.shape.observations common cells))
-      → ForSome found (λ common. IsCommonReward ((kept_meaning k).r a s e) (count_of (observed k.preamble)) common cells)
-  model_common_reward a s e found cells i j l pomdp given = λ common is.
-      let c = given d.items.preamble d.items.entries d.said.rewards common is in
+      → ForSome found (λ row. IsRewardRow (λ z. reward p entries (a ∷ s ∷ e ∷ z ∷ [])) k.rewards.shape.observations row cells))
+      → ForSome found (λ row. IsRewardRow ((kept_meaning k).r a s e) (count_of (observed k.preamble)) row cells)
+  model_reward_row a s e found cells i j l pomdp given = λ row is.
+      let c = given d.items.preamble d.items.entries d.said.rewards row is in
       let same = rewards_seen pomdp in
-      let within : (n : ℕ) → n < common.exceptions → (cell_at cells n).observation < count_of (observed k.preamble) =
-      λ n m. subst (λ size. (cell_at cells n).observation < size) same (c.within n m) in
+      let within : (n : ℕ) → n < row.exceptions → (cell_at cells n).observation < count_of (observed k.preamble) =
+      λ n m. subst (λ size. (cell_at cells n).observation < size) same (c.rewards.within n m) in
       let there : (z : ℕ) → z < count_of (observed k.preamble)
       → (kept_meaning k).r a s e z ≡ reward d.items.preamble d.items.entries (a ∷ s ∷ e ∷ z ∷ []) = λ z m.
       (kept_same d.items k (few_in k d) d.said).r a s e z i j l m
       ∙ ap (λ (p : Preamble). reward d.items.preamble d.items.entries (a ∷ s ∷ e ∷ reward_index p z ∷ [])) (sym d.said.preamble)
       ∙ ap (λ y. reward d.items.preamble d.items.entries (a ∷ s ∷ e ∷ y ∷ [])) (observed_index k.preamble z pomdp) in
       record {
-        room = c.room;
-        distinct = c.distinct;
-        within = within;
-        each = λ n m. there (cell_at cells n).observation (within n m) ∙ c.each n m;
-        others = λ z m unnamed. there z m ∙ c.others z (subst (λ size. z < size) (sym same) m) unnamed;
+        size = subst (HasBase row.base) same c.size;
+        rewards = record {
+          room = c.rewards.room;
+          distinct = c.rewards.distinct;
+          within = within;
+          each = λ n m. there (cell_at cells n).observation (within n m) ∙ c.rewards.each n m;
+          others = λ z m unnamed. there z m ∙ c.rewards.others z (subst (λ size. z < size) (sym same) m) unnamed;
+        };
       }
 
   -- the same of all end states

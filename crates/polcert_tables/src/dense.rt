@@ -1,5 +1,6 @@
 //! A model with filled tables: each cell is at its place, and entries are gone.
-ghost use Rattle.std.specs.Prelude.{◌≡◌, ◌*◌, ◌<◌, length, IfOk, OnOk};
+ghost use Rattle.std.specs.Prelude.{◌≡◌, ℕ, ◌*◌, ◌<◌, length, IfOk, OnOk};
+ghost use Rattle.std.specs.Option.{ForSome};
 ghost use Rattle.polcert_cells.specs.Meaning.{states_of, actions_of, observations_of};
 ghost use Rattle.polcert_cells.specs.Tables.{IsProper, IsWithinLimits, table_of};
 ghost use Rattle.polcert_tables.specs.Contents.{meaning};
@@ -162,6 +163,20 @@ fn rewards_of(alloc: Global, model: &Model) -> Result<Vec<i64>, AllocError>
     Ok(cells)
 }
 
+/// Returns the reward of an action, a start state and an end state, if it is known at once that it is the same for all observations.
+fn constant_reward(model: &Model, a: usize, s: usize, e: usize) -> Option<i64>
+    requires action { a < actions_of (meaning model.now) }
+    requires start { s < states_of (meaning model.now) }
+    requires end { e < states_of (meaning model.now) }
+    ensures { ForSome result (λ h. (z : ℕ) → z < observations_of (meaning model.now) →
+        (meaning model.now).r a s e z ≡ h) }
+{
+    match model.find_rewards(a, s, e, &mut []) {
+        Some(row) => row.constant(),
+        None => None,
+    }
+}
+
 /// Adds the rewards of an action, a start state and an end state: one for each observation.
 fn push_rewards(
     cells: &mut Vec<i64>,
@@ -178,9 +193,9 @@ fn push_rewards(
         cells.new.items) }
 {
     let observations = model.observations();
-    match model.find_rewards(a, s, e, &mut []) {
-        Some(common) => for _ in 0..observations {
-            cells.push(common.reward)?;
+    match constant_reward(model, a, s, e) {
+        Some(reward) => for _ in 0..observations {
+            cells.push(reward)?;
         },
         None => for z in 0..observations {
             cells.push(model.r(a, s, e, z))?;

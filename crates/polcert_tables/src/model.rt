@@ -26,7 +26,8 @@ ghost use Rattle.polcert_tables.specs.Steps.ModelView.{draft_with, kept_parts};
 ghost use Rattle.polcert_tables.specs.Steps.RowSums.{row_of, AreProperObservations};
 
 use polcert_cells::{
-    Cell, Cells, CommonReward, Elements, Entries, Kind, ONE, RewardCell, Row, StartWeights, Table,
+    BaseRewards, Cell, Cells, CommonReward, Elements, Entries, Kind, ONE, RewardCell, RewardRow,
+    Row, StartWeights, Table,
 };
 use polcert_rules::{Index, RewardShape, Rewards, Rows, Shape, WrongRow};
 use std::alloc::{AllocError, Global};
@@ -413,11 +414,12 @@ impl Cells for Model {
         s: usize,
         e: usize,
         exceptions: &mut [RewardCell],
-    ) -> Option<CommonReward> {
+    ) -> Option<RewardRow<'_>> {
         match &self.preamble.observations {
-            None => Some(CommonReward {
-                reward: Model::r(self, a, s, e, 0),
+            None => Some(RewardRow {
+                base: BaseRewards::Common(Model::r(self, a, s, e, 0)),
                 exceptions: 0,
+                until: self.rewards.same_until(a, s, e),
             }),
             Some(_) => self.rewards.find(a, s, e, exceptions),
         }

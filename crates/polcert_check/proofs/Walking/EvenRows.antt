@@ -8,7 +8,7 @@ use Rattle.std.proofs.lemmas.Bool.Decides.{nat_tests}
 use Rattle.std.proofs.Math.Nat.{mul-le-mul}
 use Rattle.polcert_cells.specs.Sparse.{AreRising, excepted_weight}
 use Rattle.polcert_cells.proofs.EvenRows.{excepted_here}
-use Rattle.polcert_check.proofs.Common.{Controller, IsController, IsWithinLimits, get_or-set_at}
+use Rattle.polcert_check.proofs.Common.{largest, CellTable, Controller, IsController, IsProper, IsWithinLimits, get_or-set_at}
 use Rattle.std.proofs.lemmas.List.{get_or-set_other}
 use Rattle.polcert_check.proofs.Sums.Bounds.{term_le}
 use Rattle.polcert_check.proofs.Common.{w128, Cell, total_below, cases_lt, most_sum, slice_get-get_or, unsigned_abs-mul, ints}
@@ -23,7 +23,7 @@ use Rattle.polcert_check.specs.Steps.Products.{IsEvenSum}
 use Rattle.polcert_cells.specs.BorrowedRows.{IsEvenRow}
 use Rattle.polcert_check.specs.declared.ends.EndValues.{EndValues}
 use Rattle.polcert_check.specs.Steps.Values.{AreEndValues, IsCompleteValue, IsExpectedValue}
-use Rattle.polcert_check.proofs.Sums.RowTotals.{t_rows}
+use Rattle.polcert_check.proofs.Sums.RowTotals.{t_rows, o_rows}
 use Rattle.polcert_check.proofs.Walking.Products.{same_if_some}
 
 later : (y : Cell) (ys : List Cell) → AreRising (y ∷ ys) → AreRising ys
@@ -213,3 +213,21 @@ module _ (c : Controller) where
         (λ e l. same_if_some (c.cells.t _ s e) _ _ (λ some. (are.narrow narrow s e sl l some).value));
     missing = λ z missed. (are.narrow narrow s missed.0 sl missed.1 missed.2).missing z missed.3;
   }
+
+-- ---- rewards of all observations, by a row of O of one weight but for exceptions
+pub even_observations : (m : CellTable) → IsProper m → IsWithinLimits m → (a e : ℕ) → a < m.actions → e < m.states
+    → (u : ℕ) (xs : List Cell)
+    → (columns : ℕ) × IsEvenRow (m.o a e) m.observations u columns xs
+    → (rewards : List ℤ) (total : ℤ) → m.observations ≤ length rewards
+    → total ≡ total_below (λ z. slice_index_or rewards z (pos 0)) m.observations → unsigned_abs total ≤ m.observations * largest
+    → IsEvenSum (m.o a e) m.observations u xs rewards total
+even_observations m p limits a e al el u xs row rewards total room sum small = record {
+  columns = row.0;
+  row = row.1;
+  few = limits.observations.1;
+  limited = λ z zl. let le = term_le (m.o a e) z m.observations m.o_scale (o_rows m p a e al el) zl in let scale = limits.o_scale in
+      grind arith;
+  room = room;
+  sum = sum;
+  small = omega (arith, small);
+}

@@ -1,11 +1,14 @@
 -- Rows that are numbers times a scale, added up before they are scaled.
 use Rattle.std.proofs.Common.{◌≡◌, ℕ, zero, suc, ◌+◌, ◌*◌, ◌^◌, ◌<◌, ◌≤◌, ⊎_elim, ℤ, pos, ◌+ℤ◌, ◌*ℤ◌, unsigned_abs, FitsSigned, to_z, of_z}
-use Rattle.std.proofs.Common.{Option, Some, None, List, length, slice_index, refl, sym, ap, subst, ◌∙◌, arith, add-one}
+use Rattle.std.proofs.Common.{Option, Some, None, List, length, slice_index, refl, sym, ap, subst, ◌∙◌, arith, add-one, w64}
 use Rattle.polcert_check.proofs.Common.{w128, cases_lt, unsigned_abs-mul, *ℤ-zero, zero-*ℤ, IsRow, Controller, total_below, at_node}
-use Rattle.polcert_check.proofs.Common.{value_term, factored_value_at_end, IsLeastOf, Misses, successors_below}
+use Rattle.polcert_check.proofs.Common.{fits_signed_from_abs, largest, value_term, factored_value_at_end, IsLeastOf, Misses}
+use Rattle.polcert_check.proofs.Common.{successors_below}
 use Rattle.polcert_cells.specs.Sparse.{scaled_cells}
 use Rattle.std.proofs.lemmas.List.{get_or_past}
 use Rattle.std.proofs.Math.Nat.{mul_comm, mul-le-mul}
+use Rattle.std.proofs.lemmas.Int.{to_z-of_z}
+use Rattle.polcert_cells.specs.Elements.{most_elements}
 use Rattle.polcert_cells.proofs.ScaledRows.{scaled_weight}
 use Rattle.polcert_check.proofs.Sums.Bounds.{abs-+ℤ}
 use Rattle.polcert_check.proofs.Sums.Gaps.{gap, no_weight, add_step}
@@ -127,3 +130,16 @@ product_more f i sum x before small few fits is le =
     subst (λ (t : ℤ). unsigned_abs t ≤ (i + 1) * 2 ^ 95) next (omega (arith, (abs-+ℤ sum x), small, le)) in
     let step = add_step sum x (total_below f (suc i)) ((i + 1) * 2 ^ 95) fits next bound (omega (arith, few)) in
     (step.0, rw add-one step.1, subst (λ (t : ℤ). unsigned_abs t ≤ (i + 1) * 2 ^ 95) (sym step.1) bound)
+
+-- numbers that are rewards, in 64 bits
+pub number_more : (f : ℕ → ℤ) (i : ℕ) (sum x : ℤ) → i < most_elements → sum ≡ total_below f i → unsigned_abs sum ≤ i * largest
+    → FitsSigned w64 x → x ≡ f i → unsigned_abs x ≤ largest
+    → FitsSigned w64 (sum +ℤ to_z w64 (of_z w64 x)) × (to_z w64 (of_z w64 (sum +ℤ to_z w64 (of_z w64 x))) ≡ total_below f (i + 1))
+    × (unsigned_abs (to_z w64 (of_z w64 (sum +ℤ to_z w64 (of_z w64 x)))) ≤ (i + 1) * largest)
+number_more f i sum x few before small fits is le =
+    let back : to_z w64 (of_z w64 x) ≡ x = to_z-of_z w64 x fits in
+    let next : sum +ℤ x ≡ total_below f (suc i) = rw (before, is) refl in
+    let both : unsigned_abs (sum +ℤ x) ≤ unsigned_abs sum + unsigned_abs x = abs-+ℤ sum x in
+    let bound : unsigned_abs (sum +ℤ x) ≤ (i + 1) * largest = omega (arith, both, small, le) in
+    let whole : FitsSigned w64 (sum +ℤ x) = fits_signed_from_abs w64 (sum +ℤ x) (omega (arith, bound, few)) in
+    rw (back, to_z-of_z w64 (sum +ℤ x) whole) (whole, rw add-one next, bound)

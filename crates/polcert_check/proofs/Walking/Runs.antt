@@ -1,19 +1,20 @@
 -- End states at which an action expects the same reward.
-use Rattle.std.proofs.Common.{◌≡◌, ◌∙◌, ℕ, ◌<◌, ◌≤◌, ℤ, pos, ◌*ℤ◌, true, List, sym, ap, arith}
-use Rattle.std.proofs.lemmas.Bool.Decides.{nat_tests}
-use Rattle.std.specs.Prelude.{◌==◌}
-use Rattle.polcert_check.proofs.Common.{CellTable, CommonReward, EndRun, IsCommonReward, IsEndRun, IsProper, IsWithinLimits, RewardCell}
+use Rattle.std.proofs.Common.{◌≡◌, ◌∙◌, ℕ, ◌<◌, ◌≤◌, ℤ, pos, ◌*ℤ◌, true, List, Option, Some, None, is_some, refl, sym, ap, arith}
+use Rattle.std.specs.Option.{ForSome}
+use Rattle.polcert_cells.specs.CommonRewards.{IsRewardRow}
+use Rattle.polcert_cells.specs.declared.common_reward.RewardRow.{RewardRow}
+use Rattle.polcert_check.proofs.Common.{CellTable, EndRun, IsEndRun, IsProper, IsWithinLimits, RewardCell}
 use Rattle.polcert_check.proofs.Common.{reward_at_end}
 use Rattle.polcert_check.proofs.Sums.SumLaws.{sum_below_same}
 use Rattle.polcert_check.proofs.Walking.Earning.{alike}
 
--- if none is excepted, all observations have the common reward
-pub none_excepted : (m : CellTable) (a s e : ℕ) (common : CommonReward) (cells : List RewardCell)
-    → IsCommonReward (m.r a s e) m.observations common cells → (common.exceptions == 0) ≡ true
-    → (h : ℤ) × ((z : ℕ) → z < m.observations → m.r a s e z ≡ h)
-none_excepted m a s e common cells is none =
-    let zero : common.exceptions ≡ 0 = grind (arith, nat_tests, none) in
-    (common.reward, λ z zl. is.others z zl (λ k l named. absurd (omega (arith, l, zero))))
+-- if one reward is found for all observations, all have it
+pub constant_row : (m : CellTable) (a s e : ℕ) (row : RewardRow) (cells : List RewardCell) (found : Option ℤ)
+    → IsRewardRow (m.r a s e) m.observations row cells
+    → ForSome found (λ h. (r : ℕ → ℤ) (count : ℕ) (cells : List RewardCell) → IsRewardRow r count row cells → (z : ℕ) → z < count → r z ≡ h)
+    → is_some found ≡ true → (h : ℤ) × ((z : ℕ) → z < m.observations → m.r a s e z ≡ h)
+constant_row m a s e row cells (Some h) is given t = (h, given h refl _ _ _ is)
+constant_row m a s e row cells None is given t = grind arith
 
 module _ (m : CellTable) (p : IsProper m) (limits : IsWithinLimits m) (a s : ℕ) (al : a < m.actions) (run : EndRun)
     (is : IsEndRun m a s run) (e : ℕ) (el : e < m.states) (from : run.end ≤ e) (to : e < run.until) where

@@ -1,11 +1,11 @@
 -- Helper definitions of private functions: rewards that differ from one that most have in common, and their weights. Nobody has to
 -- believe them.
-use Rattle.std.specs.Prelude.{◌≡◌, ℕ, zero, suc, ◌+◌, ◌*◌, ◌/◌, ◌%◌, ◌^◌, ◌<◌, ◌≤◌, ◌==◌, ℤ, pos, ◌-ℤ◌, ◌*ℤ◌, unsigned_abs, List, if◌then◌else◌}
+use Rattle.std.specs.Prelude.{◌≡◌, ℕ, zero, suc, ◌+◌, ◌*◌, ◌/◌, ◌%◌, ◌^◌, ◌<◌, ◌≤◌, ◌==◌, ℤ, pos, ◌-ℤ◌, ◌*ℤ◌, unsigned_abs, List, length, slice_index_or, if◌then◌else◌}
 use Rattle.polcert_text.specs.Numbers.{largest}
 use Rattle.polcert_cells.specs.Tables.{CellTable}
 use Rattle.polcert_cells.specs.declared.common_reward.RewardCell.{RewardCell}
 use Rattle.polcert_cells.specs.declared.common_reward.CommonReward.{CommonReward}
-use Rattle.polcert_cells.specs.CommonRewards.{IsCommonReward, cell_at}
+use Rattle.polcert_cells.specs.CommonRewards.{AreRewardsBut, IsCommonReward, cell_at}
 use Rattle.polcert_check.specs.Horizon.{total_below}
 use Rattle.polcert_check.specs.Steps.Ranges.{most_sum}
 
@@ -27,6 +27,11 @@ pub record AreExcepted (answers : ℕ → ℕ → Type 0) (scale : ℕ) (common 
   pub rewards : IsCommonReward r count common cells
   pub small : unsigned_abs common.reward + largest ≤ b
   pub limited : (k : ℕ) → k < count → unsigned_abs (r k) ≤ largest
+
+-- rewards of which most stand in a list, and the first cells say the others
+pub record AreListedBut (list : List ℤ) (r : ℕ → ℤ) (count : ℕ) (cells : List RewardCell) : Type 0 where
+  pub rewards : AreRewardsBut (λ z. slice_index_or list z (pos 0)) r (length list) count cells
+  pub limited : (z : ℕ) → z < length list → unsigned_abs (r z) ≤ largest
 
 -- the first cells, up to this place, have numbers below n
 abbrev pub AreBefore : List RewardCell → ℕ → ℕ → Type 0

@@ -1,6 +1,6 @@
 -- The number that a body has for a cell is what the entry gives it.
 use Rattle.std.proofs.Common.{◌≡◌, ◌∙◌, ℕ, zero, suc, ◌+◌, ◌<◌, ◌≤◌, Bool, true, ◌⊎◌, Option, Some, None, List, [], ◌∷◌, length, drop, map}
-use Rattle.std.proofs.Common.{get_or, All, sym, ap, subst, arith, ℤ, pos, neg_ℤ, unsigned_abs, if◌then◌else◌}
+use Rattle.std.proofs.Common.{get_or, All, refl, sym, ap, subst, arith, ℤ, pos, neg_ℤ, unsigned_abs, if◌then◌else◌}
 use Rattle.std.specs.Prelude.{◌==◌}
 use Rattle.polcert_rules.proofs.Common.{list_any, drop_all, All-cons, All-nil, slice_get-get_or, get_or_from_slice_get, Reward, Body, Entry}
 use Rattle.polcert_rules.proofs.Common.{count_of, forms, Preamble, dimensions, rewarded, IsSoundEntry, Fills, reward_of, reward, value_or}
@@ -134,3 +134,12 @@ pub small_indices : (m : ℕ) (indices : List ℕ) → AreIndices m indices → 
 small_indices m [] a = All-nil (λ i. i < key_base)
 small_indices zero (i ∷ indices) a = absurd a
 small_indices (suc m) (i ∷ indices) a = All-cons (λ i. i < key_base) i indices (omega arith) (small_indices m indices a.1)
+
+-- ---- a list of numbers, one for each observation
+pub next_cell : (states observations n a s e z : ℕ) → (n ≡ 0 → ⊥) → n < 4
+    → cell_in states observations (drop n (a ∷ s ∷ e ∷ 0 ∷ [])) + z ≡ cell_in states observations (drop n (a ∷ s ∷ e ∷ z ∷ []))
+next_cell states observations zero a s e z some few = absurd (some refl)
+next_cell states observations (suc zero) a s e z some few = omega arith
+next_cell states observations (suc (suc zero)) a s e z some few = omega arith
+next_cell states observations (suc (suc (suc zero))) a s e z some few = omega arith
+next_cell states observations (suc (suc (suc (suc n)))) a s e z some few = absurd (omega (arith, few))

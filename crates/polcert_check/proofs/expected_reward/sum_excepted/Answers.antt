@@ -9,35 +9,35 @@ use Rattle.polcert_check.proofs.expected_reward.sum_excepted.Goals as goal
 pub loop-i-init : goal.loop-i-init
 loop-i-init g c = λ w r count b are.
     to_z-of_z w128 c.weigh-shared.result (search rules)
-    ∙ weighed_is c.args.scale c.args.scale c.weigh-shared.result (to_z w64 (of_z w64 c.args.common.reward)) c.args.common.reward
+    ∙ weighed_is _ _ _ _ _
     (search rules) c.weigh-shared.ensures refl (to_z-of_z w64 c.args.common.reward (search rules))
     ∙ sum_until_none _ _ _ _ _ _ _ _ are
 
 pub weigh-part-requires-clause-weight : goal.weigh-part-requires-clause-weight
 weigh-part-requires-clause-weight g c =
     let (w, r, count, b, are) = c.requires.rewards in
-    exception_small _ _ _ _ w r count b are (search rules) c.loop-i.i c.loop-i-test.true c.weight_of-weight.result
+    exception_small _ _ _ _ w r count b are (search rules) _ c.loop-i-test.true _
     c.weight_of-weight.ensures
 
 pub weigh-part-requires-clause-product : goal.weigh-part-requires-clause-product
 weigh-part-requires-clause-product g c =
     let (w, r, count, b, are) = c.requires.rewards in
-    exception_room _ _ _ _ w r count b are (search rules) c.loop-i.i c.loop-i-test.true c.weight_of-weight.result c.weight_of-weight.ensures
+    exception_room _ _ _ _ w r count b are (search rules) _ c.loop-i-test.true _ c.weight_of-weight.ensures
     (search rules)
 
 pub overflow_add-sum : goal.overflow_add-sum
 overflow_add-sum g c =
     let (w, r, count, b, are) = c.requires.rewards in
-    (exception_more _ _ _ _ w r count b are (search rules) c.loop-i.i c.loop-i-test.true c.weight_of-weight.result
+    (exception_more _ _ _ _ w r count b are (search rules) _ c.loop-i-test.true _
     c.weight_of-weight.ensures
-    (to_z w128 c.loop-i.sum-bits) c.weigh-part.result (search rules) (search rules) c.weigh-part.ensures
+    _ _ (search rules) (search rules) c.weigh-part.ensures
     (c.loop-i.invariant w r count b are)).0
 
 pub loop-i-preserved : goal.loop-i-preserved
 loop-i-preserved g c = λ w r count b are.
-    (exception_more _ _ _ _ w r count b are (search rules) c.loop-i.i c.loop-i-test.true c.weight_of-weight.result
+    (exception_more _ _ _ _ w r count b are (search rules) _ c.loop-i-test.true _
     c.weight_of-weight.ensures
-    (to_z w128 c.loop-i.sum-bits) c.weigh-part.result (search rules) (search rules) c.weigh-part.ensures
+    _ _ (search rules) (search rules) c.weigh-part.ensures
     (c.loop-i.invariant w r count b are)).1
 
 pub returns : goal.returns

@@ -9,9 +9,8 @@ pub loop-preserved : goal.loop-preserved
 loop-preserved c =
     let f = (meaning c.args.model.now).r c.args.a c.args.s c.args.e in
     rw c.in_ok-push-in-Some.ensures.items (adds_next f c.loop.counter c.args.cells.now.items c.loop.cells.items _ c.loop.invariant
-    (to_z-of_z w64 _ (search rules) ∙ sym ((c.find_rewards.ensures _ c.in-Some.is).others c.loop.counter
-    (omega (arith, c.loop-test.true, c.observations-observations.ensures.elements))
-    (λ k l e. let room = (c.find_rewards.ensures _ c.in-Some.is).room in omega (arith, l, room)))))
+    (to_z-of_z w64 _ (search rules) ∙ sym (c.constant_reward.ensures _ c.in-Some.is c.loop.counter
+    (omega (arith, c.loop-test.true, c.observations-observations.ensures.elements)))))
 
 pub loop-z-preserved : goal.loop-z-preserved
 loop-z-preserved c =
