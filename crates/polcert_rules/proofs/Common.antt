@@ -53,6 +53,7 @@ pub use Rattle.polcert_rules.specs.declared.index.Rule.{Rule}
 pub use Rattle.polcert_rules.specs.declared.named_rules.NamedRule.{NamedRule}
 pub use Rattle.polcert_cells.specs.declared.entries.RewardBody.{RewardBody}
 pub use Rattle.polcert_rules.specs.declared.rewards.RewardShape.{RewardShape}
+pub use Rattle.polcert_rules.specs.declared.row.ActionRules.{ActionRules}
 pub use Rattle.polcert_rules.specs.declared.row.EntryRow.{EntryRow}
 pub use Rattle.polcert_rules.specs.declared.row_rules.CellRules.{CellRules}
 pub use Rattle.polcert_rules.specs.declared.row_store.Part.{Part}

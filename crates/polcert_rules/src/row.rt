@@ -11,7 +11,8 @@ ghost use Rattle.polcert_rules.specs.Steps.Rows.{HaveColumns, IsSingleCellKey, I
 ghost use Rattle.polcert_rules.specs.Steps.Rows.{at_column, AreExact, HasSharedColumns, IsTableKey};
 ghost use Rattle.polcert_rules.specs.Steps.Zeros.{others_in};
 ghost use Rattle.polcert_rules.specs.Steps.Repeats.{IsWholeNumber};
-ghost use Rattle.polcert_rules.specs.Steps.Zeros.{HasOrderedZeros, IsSplit, IsEntryRowOf, covering_entry, newest_zero};
+ghost use Rattle.polcert_rules.specs.Steps.Zeros.{AreActionRules, HasOrderedZeros, IsSplit, IsEntryRowOf, covering_entry};
+ghost use Rattle.polcert_rules.specs.Steps.Zeros.{newest_zero};
 ghost use Rattle.polcert_rules.specs.Steps.Zeros.{overrides, shown, shown_under};
 ghost use Rattle.polcert_cells.specs.Elements.{most_elements};
 ghost use Rattle.polcert_rules.specs.Steps.Merging.{given_at, is_newer, newer_cells, merged, before};
@@ -29,7 +30,7 @@ use crate::index::{
     rules_from_at, sort_newest, span, table_digit,
 };
 use crate::rows::{StoredRow, cells_of, even_row_cells};
-use crate::zeros::{RowZeros, SplitRules, row_zeros};
+use crate::zeros::{ActionZeros, RowZeros, SplitRules, row_zeros};
 use crate::{Rule, Shape};
 use polcert_cells::{BodyRef, Cell, Entries, EntryRef, ONE, Table};
 use std::alloc::{AllocError, Global};
@@ -59,28 +60,63 @@ impl RowCells {
     }
 }
 
+/// The rules of a table, and which of its zeros all rows of this action share.
+#[derive(Clone, Copy)]
+pub(crate) struct ActionRules<'a> {
+    pub split: &'a SplitRules<'a>,
+    pub table: Table,
+    pub action: usize,
+    pub zeros: ActionZeros<'a>,
+}
+
+impl<'a> ActionRules<'a> {
+    /// Finds the zeros of this action among the rules of a table.
+    pub(crate) fn of(split: &'a SplitRules<'a>, table: Table, action: usize) -> ActionRules<'a>
+        requires action { action + 2 < key_base }
+        requires rising { IsRising split.now.zeros.items }
+        ensures table { result.table ≡ table }
+        ensures action { result.action ≡ action }
+        ensures split { (entries : List E) (rules : List R) → IsSplit entries rules split.now →
+            AreActionRules entries rules result }
+    {
+        let low = table_digit(table) * span(MOST_PLACES);
+        let zeros = ActionZeros::of(split.zeros.as_slice(), low, action);
+        ActionRules {
+            split,
+            table,
+            action,
+            zeros,
+        }
+    }
+}
+
 impl<'a> EntryRow<'a> {
-    /// Returns the row of a table at this action and state, by its entries: `whole` is the number of the one that covers the whole row. The
-    /// cells of the row before are given up, as room.
-    // (Six parameters: three numbers that say which row it is, and what it is made of.)
+    /// Returns the row of an action at this state, by its entries: `whole` is the number of the one that covers the whole row. The cells of
+    /// the row before are given up, as room.
     pub(crate) fn of(
         last: RowCells,
         whole: Option<usize>,
-        split: &'a SplitRules<'a>,
-        table: Table,
-        action: usize,
+        given: ActionRules<'a>,
         state: usize,
     ) -> Result<EntryRow<'a>, AllocError>
-        requires action { action + 2 < key_base }
+        requires action { given.action + 2 < key_base }
         requires state { state + 2 < key_base }
-        requires split { (entries : List E) × (rules : List R) × IsSplit entries rules split.now }
+        requires rules { (entries : List E) × (rules : List R) × AreActionRules entries rules given }
         ensures { IfOk result (λ row. (entries : List E) (rules : List R) →
-            HaveColumns entries → IsIndexOf table entries rules → IsSplit entries rules split.now →
-            IsWholeNumber rules table action state whole → IsEntryRowOf entries table action state row) }
+            HaveColumns entries → IsIndexOf given.entry.table entries rules →
+            AreActionRules entries rules given.entry →
+            IsWholeNumber rules given.entry.table given.entry.action state whole →
+            IsEntryRowOf entries given.entry.table given.entry.action state row) }
     {
+        let ActionRules {
+            split,
+            table,
+            action,
+            zeros: of_each,
+        } = given;
         let low = table_digit(table) * span(MOST_PLACES);
         let cells = cells(last, split, low, action, state)?;
-        let zeros = row_zeros(split.zeros.as_slice(), low, action, state);
+        let zeros = row_zeros(split.zeros.as_slice(), of_each, low, state);
         Ok(EntryRow {
             whole,
             cells,

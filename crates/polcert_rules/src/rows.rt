@@ -20,7 +20,7 @@ ghost use Rattle.polcert_cells.specs.Elements.{most_elements};
 
 use crate::Index;
 use crate::index::{KEY_BASE, newest_of_table};
-use crate::row::{EntryRow, RowCells};
+use crate::row::{ActionRules, EntryRow, RowCells};
 use crate::row_store::{Bodies, Lists, Near, RowStore};
 use crate::zeros::SplitRules;
 use polcert_cells::{Cell, Entries, Row as BorrowedRow, Table, excepted_weight};
@@ -233,9 +233,10 @@ fn action_rows(
 {
     let mut numbers = Vec::with_capacity(alloc, given.bodies.shape.states)?;
     let mut cells = RowCells::new(alloc);
+    let rules = ActionRules::of(given.split, given.table, action);
     for state in 0..given.bodies.shape.states {
         let whole = newest_whole(given, action, state);
-        let row = EntryRow::of(cells, whole, given.split, given.table, action, state)?;
+        let row = EntryRow::of(cells, whole, rules, state)?;
         let near = Near {
             here: numbers.as_slice(),
             before,

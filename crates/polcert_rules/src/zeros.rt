@@ -1,11 +1,11 @@
 //! The zeros of a row of T or O: single cells of weight 0 in each row of an action or of a state, which are searched by column and never
 //! gathered.
 ghost use Rattle.std.specs.Prelude.{◌≡◌, ◌+◌, ◌*◌, ◌-◌, ◌<◌, ◌≤◌, ◌^◌, ℕ, None, IfSome, IsTrue, ◌==◌, All};
-ghost use Rattle.std.specs.Prelude.{IfOk, length, slice_index};
+ghost use Rattle.std.specs.Prelude.{Contains, IfOk, false, length, slice_index};
 ghost use Rattle.polcert_rules.specs.Keys.{key_base};
 ghost use Rattle.polcert_rules.specs.Steps.Newest.{IsRising, IsNewest};
-ghost use Rattle.polcert_rules.specs.Steps.Rows.{AreExact, IsExactKey, IsSingleCellKey};
-ghost use Rattle.polcert_rules.specs.Steps.Zeros.{IsOrdered, HasOrderedZeros, AreColumnsFrom, zero_in};
+ghost use Rattle.polcert_rules.specs.Steps.Rows.{AreExact, IsExactKey, IsSingleCellKey, IsTableKey};
+ghost use Rattle.polcert_rules.specs.Steps.Zeros.{IsOrdered, HasOrderedZeros, AreColumnsFrom, AreActionZeros, zero_in};
 ghost use Rattle.polcert_rules.specs.Steps.Zeros.{newest_zero, zero_of, gives_zero, is_shared_zero, zeros_of};
 ghost use Rattle.polcert_rules.specs.Steps.Zeros.{others_of, others_in, names_column, names_row, wholes_of};
 ghost use Rattle.polcert_rules.specs.declared.index.Rule.{Rule as R};
@@ -26,17 +26,22 @@ pub(crate) struct ZeroColumns<'a> {
     pub rules: &'a [Rule],
 }
 
+/// The zeros that all rows of an action share, by the kind of their patterns.
+#[derive(Clone, Copy)]
+pub(crate) struct ActionZeros<'a> {
+    /// Of each action and state.
+    pub of_all: ZeroColumns<'a>,
+    /// Of this action, in each state.
+    pub of_action: ZeroColumns<'a>,
+}
+
 /// The zeros of a row, by the kind of their patterns.
 #[derive(Clone, Copy)]
 pub(crate) struct RowZeros<'a> {
-    /// Of each action and state.
-    pub of_all: ZeroColumns<'a>,
+    /// Of each row of this action.
+    pub of_each: ActionZeros<'a>,
     /// Of each action, in this state.
     pub of_state: ZeroColumns<'a>,
-    /// Of this action, in each state.
-    pub of_action: ZeroColumns<'a>,
-    /// Of this action and state.
-    pub of_row: ZeroColumns<'a>,
 }
 
 impl<'a> ZeroColumns<'a> {
@@ -63,6 +68,21 @@ impl<'a> ZeroColumns<'a> {
     }
 }
 
+impl<'a> ActionZeros<'a> {
+    /// Returns the zeros among these rules, of a table whose first key is `low`, that all rows of this action share.
+    pub(crate) fn of(rules: &'a [Rule], low: u64, action: usize) -> ActionZeros<'a>
+        requires rising { IsRising rules.now }
+        requires low { IsTableKey low }
+        requires action { action + 2 < key_base }
+        ensures { AreActionZeros rules.now low action result }
+    {
+        ActionZeros {
+            of_all: ZeroColumns::of(rules, first_column(low, 1, 1)),
+            of_action: ZeroColumns::of(rules, first_column(low, action as u64 + 2, 1)),
+        }
+    }
+}
+
 impl RowZeros<'_> {
     /// Returns the number of the newest zero of this column, if there is one.
     pub(crate) fn newest(&self, column: usize) -> Option<usize>
@@ -70,48 +90,42 @@ impl RowZeros<'_> {
         requires column { column + 2 < key_base }
         ensures { result ≡ newest_zero self.now column }
     {
-        let of_each_action = max_option(self.of_all.newest(column), self.of_state.newest(column));
-        let of_this_action = max_option(self.of_action.newest(column), self.of_row.newest(column));
-        max_option(of_each_action, of_this_action)
+        let ActionZeros { of_all, of_action } = self.of_each;
+        let of_each = max_option(of_all.newest(column), of_action.newest(column));
+        max_option(of_each, self.of_state.newest(column))
     }
 
     /// Tests whether the row has no zeros.
     fn is_empty(&self) -> bool
         ensures { IsTrue result → (c : ℕ) → newest_zero self.now c ≡ None }
     {
-        self.of_all.rules.is_empty()
+        self.of_each.of_all.rules.is_empty()
+            && self.of_each.of_action.rules.is_empty()
             && self.of_state.rules.is_empty()
-            && self.of_action.rules.is_empty()
-            && self.of_row.rules.is_empty()
     }
 }
 
-/// Returns the zeros of the row at this action and state, if there are any.
-pub(crate) fn row_zeros(
-    rules: &[Rule],
+/// Returns the zeros of the row at this state, if there are any, of an action whose rows share the zeros `of_each`.
+pub(crate) fn row_zeros<'a>(
+    rules: &'a [Rule],
+    of_each: ActionZeros<'a>,
     low: u64,
-    action: usize,
     state: usize,
-) -> Option<RowZeros<'_>>
+) -> Option<RowZeros<'a>>
     requires rising { IsRising rules.now }
-    requires room { low + key_base ^ 4 < 2 ^ 64 }
-    requires action { action + 2 < key_base }
+    requires shared { (r : R) → Contains rules.now r → names_row r.key ≡ false }
+    requires each { (action : ℕ) × AreActionZeros rules.now low action of_each }
+    requires low { IsTableKey low }
     requires state { state + 2 < key_base }
     ensures ordered { IfSome result HasOrderedZeros }
-    ensures newest { (c : ℕ) → c + 2 < key_base →
-        IsNewest rules.now (IsSingleCellKey low action state c) (zero_of result c) }
+    ensures newest { (action c : ℕ) → AreActionZeros rules.now low action of_each.entry →
+        c + 2 < key_base → IsNewest rules.now (IsSingleCellKey low action state c) (zero_of result c) }
 {
     if rules.is_empty() {
         return None;
     }
-    let action = action as u64 + 2;
-    let state = state as u64 + 2;
-    let zeros = RowZeros {
-        of_all: ZeroColumns::of(rules, first_column(low, 1, 1)),
-        of_state: ZeroColumns::of(rules, first_column(low, 1, state)),
-        of_action: ZeroColumns::of(rules, first_column(low, action, 1)),
-        of_row: ZeroColumns::of(rules, first_column(low, action, state)),
-    };
+    let of_state = ZeroColumns::of(rules, first_column(low, 1, state as u64 + 2));
+    let zeros = RowZeros { of_each, of_state };
     if zeros.is_empty() { None } else { Some(zeros) }
 }
 

@@ -4,7 +4,7 @@ use Rattle.std.proofs.Common.{sym, ap, subst, arith, rules}
 use Rattle.std.specs.List.{slice_get}
 use Rattle.polcert_rules.proofs.Common.{Table, Reward, Place, Entry, Elements, count_of, most_states, most_actions, most_observations}
 use Rattle.polcert_rules.proofs.Common.{is_table, fit_places, last_covering, IsLastCovering, last, weight, weight_of, value_or, one}
-use Rattle.polcert_rules.proofs.Common.{Preamble, dimensions, IsWeighted, IsSoundEntry, Rule, Shape, SplitRules, EntryRow, IsSplit}
+use Rattle.polcert_rules.proofs.Common.{Preamble, dimensions, IsWeighted, IsSoundEntry, Rule, Shape, ActionRules, EntryRow}
 use Rattle.polcert_rules.proofs.Common.{IsEntryRowOf}
 use Rattle.polcert_rules.proofs.Common.{covering_entry, key_base, AreDigits, most_places, IsIndexOf, AreKeyed, IsLastNumber}
 use Rattle.polcert_rules.proofs.Common.{HaveColumns, IsSingleEntry, no_column, number_in, IsShapeWithin, FitsShape, entry_weight, IsShapeOf}
@@ -18,6 +18,7 @@ use Rattle.polcert_rules.specs.Steps.Sources.{IsNumberEntry}
 use Rattle.polcert_cells.proofs.CellLaws as cells
 use Rattle.polcert_cells.proofs.SoundLaws.{rewarded_few}
 use Rattle.polcert_rules.specs.Steps.Repeats.{IsWholeNumber}
+use Rattle.polcert_rules.specs.Steps.Zeros.{AreActionRules}
 use Rattle.polcert_rules.proofs.Keyed.Fitting.{and_true}
 use Rattle.polcert_rules.proofs.Keyed.KeyBase.{action_digit, element_digit, place_digit}
 use Rattle.polcert_rules.proofs.Keyed.Covering.{same_table, last_is}
@@ -157,12 +158,18 @@ pub sound_within : (p : Preamble) (table : Table) (shape : Shape) (entries : Lis
 sound_within p table shape entries h1 h2 h3 = grind arith
 
 -- the numbers of a row, by what the index says of it
-pub row_numbers : (p : Preamble) (table : Table) (shape : Shape) (entries : List Entry) (rules : List Rule) (split : SplitRules) (a s : ℕ)
+pub row_numbers : (p : Preamble) (table : Table) (shape : Shape) (entries : List Entry) (rules : List Rule) (given : ActionRules) (a s : ℕ)
     (whole : Option ℕ) (row : EntryRow)
-    → IsWeighted table → IsShapeOf p table shape → AreSound p entries → IsIndexOf table entries rules → IsSplit entries rules split
-    → IsWholeNumber rules table a s whole
-    → ((es : List Entry) (rs : List Rule) → HaveColumns es → IsIndexOf table es rs → IsSplit es rs split → IsWholeNumber rs table a s whole
-    → IsEntryRowOf es table a s row)
+    → IsWeighted table → IsShapeOf p table shape → AreSound p entries → IsIndexOf table entries rules → AreActionRules entries rules given
+    → given.table ≡ table → given.action ≡ a → IsWholeNumber rules table a s whole
+    → ((es : List Entry) (rs : List Rule) → HaveColumns es → IsIndexOf given.table es rs → AreActionRules es rs given
+    → IsWholeNumber rs given.table given.action s whole → IsEntryRowOf es given.table given.action s row)
     → AreNumbersOf shape entries table a s row
-row_numbers p table shape entries rs0 split a s whole row w is sound index parted coverings0 of_row =
-    search (rules, sound_columns, covering, numbers_are, sound_within)
+row_numbers p table shape entries rs given a s whole row w is sound index found same here covering0 of_row =
+    let covering1 = subst (λ i. IsWholeNumber rs table i s whole) (sym here) covering0 in
+    let covering2 = subst (λ t. IsWholeNumber rs t given.action s whole) (sym same) covering1 in
+    let of_given = of_row entries rs (sound_columns p entries sound) (subst (λ t. IsIndexOf t entries rs) (sym same) index) found covering2
+    in
+    let of_table = subst (λ t. IsEntryRowOf entries t given.action s row) same of_given in
+    let of_action = subst (λ i. IsEntryRowOf entries table i s row) here of_table in
+    search (of_action, rules, covering, numbers_are, sound_within)

@@ -7,12 +7,13 @@ use Rattle.polcert_rules.proofs.Common.{names_column, others_of, wholes_of}
 use Rattle.std.proofs.lemmas.List.Kept.{AllPairs-filter}
 use Rattle.std.specs.Prelude.{not}
 use Rattle.polcert_rules.specs.Steps.Rows.{AreExact}
-use Rattle.polcert_rules.specs.Steps.Zeros.{is_shared_zero}
+use Rattle.polcert_rules.specs.Steps.Zeros.{is_shared_zero, names_row}
 use Rattle.polcert_rules.proofs.Indexes.Building.{Among, among_from, contains_from}
 use Rattle.polcert_rules.proofs.RowLaws.Cells.{all_of}
 
 module _ (entries : List Entry) where
-  zeros_old : (rs : List Rule) (q : Rule) → Among q (zeros_of entries rs) → Among q rs × (is_zero_entry entries q.number ≡ true)
+  zeros_old : (rs : List Rule) (q : Rule) → Among q (zeros_of entries rs)
+      → Among q rs × (is_zero_entry entries q.number ≡ true) × (names_row q.key ≡ false)
   zeros_old [] q a = absurd a
   zeros_old (r ∷ rs) q a = grind (arith, ⊎_elim, zeros_old rs q)
 
@@ -60,12 +61,14 @@ module _ (entries : List Entry) where
     others_rise = subst IsRising (sym o) (others_rise rules up);
     each = λ r. (⊎_elim (λ c. contains_from rules r (old_zero r c).0) (λ c. contains_from rules r (old_other r c)), new r);
     zero = λ r c. (old_zero r c).1;
+    shared = λ r c. (old_zero r c).2;
     wholes = w;
     wholes_rise = subst IsRising (sym w) (AllPairs-filter (λ x y. x.key < y.key) (λ x. not (names_column x.key)) rules up);
     exact = exact;
   }
     where
-      old_zero : (r : Rule) → Contains split.zeros.items r → Among r rules × (is_zero_entry entries r.number ≡ true)
+      old_zero : (r : Rule) → Contains split.zeros.items r
+          → Among r rules × (is_zero_entry entries r.number ≡ true) × (names_row r.key ≡ false)
       old_zero r c = zeros_old rules r (among_from (zeros_of entries rules) r (subst (λ xs. Contains xs r) z c))
 
       old_other : (r : Rule) → Contains (others_in split.others) r → Among r rules

@@ -1,15 +1,16 @@
 -- The zeros of a row, found by their keys.
-use Rattle.std.proofs.Common.{◌≡◌, ◌∙◌, ℕ, ◌+◌, ◌*◌, ◌<◌, ◌≤◌, ◌↔◌, ◌⊎◌, ⊎_elim, true, Option, None, List, Contains, refl, ap, subst, arith}
+use Rattle.std.proofs.Common.{◌≡◌, ◌∙◌, ℕ, ◌+◌, ◌*◌, ◌^◌, ◌/◌, ◌%◌, ◌<◌, ◌≤◌, ◌↔◌, ◌⊎◌, inl, inr, ⊎_elim, true, false, Option, None}
+use Rattle.std.proofs.Common.{List, Contains, refl, ap, subst, arith}
 use Rattle.std.specs.Prelude.{◌==◌}
 use Rattle.polcert_rules.proofs.Common.{Place, Every, Only, fits_place, Rule, RowZeros, key_base, digit, IsNewest, IsSingleCellKey}
-use Rattle.polcert_rules.proofs.Common.{newest_zero}
-use Rattle.polcert_rules.specs.Steps.Zeros.{AreColumnsFrom, at_key, zero_in}
+use Rattle.polcert_rules.proofs.Common.{nat_tests, newest_zero}
+use Rattle.polcert_rules.specs.Steps.Zeros.{AreActionZeros, AreColumnsFrom, at_key, names_row, zero_in}
 use Rattle.polcert_rules.specs.declared.zeros.ZeroColumns.{ZeroColumns}
 use Rattle.polcert_rules.proofs.Keyed.Fitting.{same_number, equal_numbers}
-use Rattle.polcert_rules.proofs.Indexes.Newer.{newest_as, newest_of_part, newest_of_two}
+use Rattle.polcert_rules.proofs.Indexes.Newer.{newest_among, newest_of_part, newest_of_two}
 use Rattle.polcert_rules.proofs.Indexes.Matching.{newest_by_is, one_newest}
 use Rattle.polcert_rules.proofs.RowLaws.Cells.{two_digits}
-use Rattle.polcert_rules.specs.Steps.Rows.{start_of}
+use Rattle.polcert_rules.specs.Steps.Rows.{IsTableKey, start_of}
 
 -- ---- one key
 key_is : (rules : List Rule) (key : ℕ) → IsNewest rules (λ k. k ≡ key) (at_key rules key)
@@ -41,29 +42,49 @@ pub single_to : (low action state c start a b k : ℕ) (i : IsSingleCellKey low 
     → digit i.second ≡ b → k ≡ start + c * key_base
 single_to low action state c start a b k i is e f = omega arith
 
-pub row_newest : (rules : List Rule) (low action state s1 s2 s3 s4 : ℕ) (z : RowZeros) → s1 ≡ start_of low 1 1
-    → s2 ≡ start_of low 1 (state + 2)
-    → s3 ≡ start_of low (action + 2) 1 → s4 ≡ start_of low (action + 2) (state + 2)
-    → AreColumnsFrom rules s1 z.of_all → AreColumnsFrom rules s2 z.of_state → AreColumnsFrom rules s3 z.of_action
-    → AreColumnsFrom rules s4 z.of_row
-    → (c : ℕ) → c + 2 < key_base → IsNewest rules (IsSingleCellKey low action state c) (newest_zero z c)
-row_newest rules low action state s1 s2 s3 s4 z i1 i2 i3 i4 f1 f2 f3 f4 c small =
-    newest_as rules (λ k. ((k ≡ s1 + c * key_base) ⊎ (k ≡ s2 + c * key_base)) ⊎ ((k ≡ s3 + c * key_base) ⊎ (k ≡ s4 + c * key_base)))
-    (IsSingleCellKey low action state c) _ forth back
-    (newest_of_two rules _ _ _ _ (newest_of_two rules _ _ _ _ (in_columns rules s1 c z.of_all f1 small)
-    (in_columns rules s2 c z.of_state f2 small)) (newest_of_two rules _ _ _ _ (in_columns rules s3 c z.of_action f3 small)
-    (in_columns rules s4 c z.of_row f4 small)))
-  where
-    forth : (k : ℕ) → ((k ≡ s1 + c * key_base) ⊎ (k ≡ s2 + c * key_base)) ⊎ ((k ≡ s3 + c * key_base) ⊎ (k ≡ s4 + c * key_base))
-        → IsSingleCellKey low action state c k
-    forth k e = ⊎_elim (λ front. ⊎_elim (single_from low action state c s1 k Every Every i1 refl refl)
-        (single_from low action state c s2 k Every (Only state) i2 refl (equal_numbers state)) front)
-        (λ rest. ⊎_elim (single_from low action state c s3 k (Only action) Every i3 (equal_numbers action) refl)
-        (single_from low action state c s4 k (Only action) (Only state) i4 (equal_numbers action) (equal_numbers state)) rest) e
+-- a key of an action and a state names a row
+of_row : (low d a s c k : ℕ) → low ≡ d * key_base ^ 4 → a + 2 < key_base → s + 2 < key_base → c + 2 < key_base
+    → k ≡ start_of low (a + 2) (s + 2) + c * key_base → names_row k ≡ false → ⊥
+of_row low d a s c k is la ls lc e none =
+    let first : (k / key_base ^ 3) % key_base ≡ a + 2 = omega arith in
+    let second : (k / key_base ^ 2) % key_base ≡ s + 2 = omega arith in
+    absurd (grind (arith, nat_tests))
 
-    back : (k : ℕ) → IsSingleCellKey low action state c k → ((k ≡ s1 + c * key_base) ⊎ (k ≡ s2 + c * key_base))
-        ⊎ ((k ≡ s3 + c * key_base) ⊎ (k ≡ s4 + c * key_base))
-    back k i = grind (arith, ⊎_elim, two_digits, single_to)
+pub row_newest : (rules : List Rule) (low action state s : ℕ) (z : RowZeros) → IsTableKey low → state + 2 < key_base
+    → ((r : Rule) → Contains rules r → names_row r.key ≡ false) → AreActionZeros rules low action z.of_each → s ≡ start_of low 1 (state + 2)
+    → AreColumnsFrom rules s z.of_state
+    → (c : ℕ) → c + 2 < key_base → IsNewest rules (IsSingleCellKey low action state c) (newest_zero z c)
+row_newest rules low action state s z table ls shared each is of_state c small =
+    newest_among rules (λ k. ((k ≡ all + c * key_base) ⊎ (k ≡ one + c * key_base)) ⊎ (k ≡ s + c * key_base))
+    (IsSingleCellKey low action state c) _ (λ r among. forth r.key) back
+    (newest_of_two rules _ _ _ _ (newest_of_two rules _ _ _ _ (in_columns rules all c z.of_each.of_all each.of_all small)
+    (in_columns rules one c z.of_each.of_action each.of_action small)) (in_columns rules s c z.of_state of_state small))
+  where
+    all : ℕ
+    all = start_of low 1 1
+
+    one : ℕ
+    one = start_of low (action + 2) 1
+
+    forth : (k : ℕ) → ((k ≡ all + c * key_base) ⊎ (k ≡ one + c * key_base)) ⊎ (k ≡ s + c * key_base)
+        → IsSingleCellKey low action state c k
+    forth k e = ⊎_elim (λ shared. ⊎_elim (single_from low action state c all k Every Every refl refl refl)
+        (single_from low action state c one k (Only action) Every refl (equal_numbers action) refl) shared)
+        (single_from low action state c s k Every (Only state) is refl (equal_numbers state)) e
+
+    back : (r : Rule) → Contains rules r → IsSingleCellKey low action state c r.key
+        → ((r.key ≡ all + c * key_base) ⊎ (r.key ≡ one + c * key_base)) ⊎ (r.key ≡ s + c * key_base)
+    back r among i = ⊎_elim
+        (λ every. ⊎_elim (λ f. inl (inl (single_to low action state c all 1 1 r.key i refl every f)))
+        (λ f. inr (single_to low action state c s 1 (state + 2) r.key i is every f)) second)
+        (λ only. ⊎_elim (λ f. inl (inr (single_to low action state c one (action + 2) 1 r.key i refl only f)))
+        (λ f. absurd (of_row low table.0 action state c r.key table.2 each.room ls small
+        (single_to low action state c (start_of low (action + 2) (state + 2)) (action + 2) (state + 2) r.key i refl only f)
+        (shared r among))) second)
+        (two_digits i.first action i.fits_action)
+      where
+        second : (digit i.second ≡ 1) ⊎ (digit i.second ≡ state + 2)
+        second = two_digits i.second state i.fits_state
 
 pub none_newest : (rules : List Rule) (P : ℕ → Type 0) (x : Option ℕ) → x ≡ None → IsNewest rules P x → IsNewest rules P None
 none_newest rules P x e n = subst (IsNewest rules P) e n

@@ -12,13 +12,15 @@ use Rattle.polcert_rules.specs.declared.zeros.SplitRules.{SplitRules}
 use Rattle.polcert_rules.specs.declared.zeros.Others.{Others}
 use Rattle.polcert_rules.specs.declared.zeros.Others.TheVariants.{Borrowed, Listed}
 use Rattle.polcert_rules.specs.declared.zeros.ZeroColumns.{ZeroColumns}
+use Rattle.polcert_rules.specs.declared.zeros.ActionZeros.{ActionZeros}
 use Rattle.polcert_rules.specs.declared.zeros.RowZeros.{RowZeros}
+use Rattle.polcert_rules.specs.declared.row.ActionRules.{ActionRules}
 use Rattle.polcert_rules.specs.declared.row.EntryRow.{EntryRow}
-use Rattle.polcert_rules.specs.Keys.{key_base}
+use Rattle.polcert_rules.specs.Keys.{key_base, table_key}
 use Rattle.polcert_rules.specs.Steps.Newest.{IsRising, IsLastNumber}
 use Rattle.polcert_rules.specs.Matching.{max_option, newest_by}
 use Rattle.polcert_rules.specs.Steps.Merging.{is_newer}
-use Rattle.polcert_rules.specs.Steps.Rows.{AreExact, IsSingleEntry, no_column, number_in}
+use Rattle.polcert_rules.specs.Steps.Rows.{AreExact, IsSingleEntry, no_column, number_in, start_of}
 
 -- ---- which rules are zeros
 -- the body of an entry of this many places gives single cells the weight 0
@@ -67,12 +69,13 @@ abbrev pub others_in : Others → List Rule
 others_in (Borrowed rules) = rules.now
 others_in (Listed rules) = rules.items
 
--- each rule is in one of the two lists, and those of the first are zeros
+-- each rule is in one of the two lists, and those of the first are zeros of several rows
 pub record IsSplit (entries : List Entry) (rules : List Rule) (split : SplitRules) : Type 0 where
   pub zeros_rise : IsRising split.zeros.items
   pub others_rise : IsRising (others_in split.others)
   pub each : (r : Rule) → (Contains split.zeros.items r ⊎ Contains (others_in split.others) r) ↔ Contains rules r
   pub zero : (r : Rule) → Contains split.zeros.items r → is_zero_entry entries r.number ≡ true
+  pub shared : (r : Rule) → Contains split.zeros.items r → names_row r.key ≡ false
   pub wholes : split.wholes.items ≡ wholes_of rules
   pub wholes_rise : IsRising split.wholes.items
   pub exact : split.is_exact ≡ true → AreExact rules
@@ -88,7 +91,7 @@ zero_in z column = at_key z.rules.now (z.start + column * key_base)
 -- the number of the newest zero of a column
 abbrev pub newest_zero : RowZeros → ℕ → Option ℕ
 newest_zero z c =
-    max_option (max_option (zero_in z.of_all c) (zero_in z.of_state c)) (max_option (zero_in z.of_action c) (zero_in z.of_row c))
+    max_option (max_option (zero_in z.of_each.of_all c) (zero_in z.of_each.of_action c)) (zero_in z.of_state c)
 
 abbrev pub zero_of : Option RowZeros → ℕ → Option ℕ
 zero_of None c = None
@@ -100,16 +103,26 @@ pub record IsOrdered (z : ZeroColumns) : Type 0 where
   pub room : z.start + (key_base - 2) * key_base < 2 ^ 64
 
 pub record HasOrderedZeros (z : RowZeros) : Type 0 where
-  pub of_all : IsOrdered z.of_all
+  pub of_all : IsOrdered z.of_each.of_all
+  pub of_action : IsOrdered z.of_each.of_action
   pub of_state : IsOrdered z.of_state
-  pub of_action : IsOrdered z.of_action
-  pub of_row : IsOrdered z.of_row
 
 -- the rules from the key `start` on, as far as keys of columns go
 pub record AreColumnsFrom (rules : List Rule) (start : ℕ) (z : ZeroColumns) : Type 0 where
   pub is : z.start ≡ start
   pub rising : IsRising z.rules.now
   pub kept : (r : Rule) → Contains z.rules.now r ↔ (Contains rules r × (start ≤ r.key) × (r.key < start + (key_base - 2) * key_base))
+
+-- the zeros that all rows of an action share
+pub record AreActionZeros (rules : List Rule) (low action : ℕ) (z : ActionZeros) : Type 0 where
+  pub room : action + 2 < key_base
+  pub of_all : AreColumnsFrom rules (start_of low 1 1) z.of_all
+  pub of_action : AreColumnsFrom rules (start_of low (action + 2) 1) z.of_action
+
+-- their rules are split, and the zeros are those of this table's action
+pub record AreActionRules (entries : List Entry) (rules : List Rule) (r : ActionRules) : Type 0 where
+  pub split : IsSplit entries rules r.split.now
+  pub zeros : AreActionZeros r.split.now.zeros.items (table_key r.table) r.action r.zeros
 
 -- ---- what lies under the cells above 0
 -- what covers the whole row, or a zero that is newer

@@ -8,8 +8,12 @@ use Rattle.polcert_rules.proofs.rows.action_rows.Goals as goal
 pub loop-state-init : goal.loop-state-init
 loop-state-init c = (line_none _ _ _ _ (search rules), c.requires.kept, λ n row e. e)
 
-pub of-requires-clause-split : goal.of-requires-clause-split
-of-requires-clause-split c = (c.args.given.bodies.entries.now, c.args.given.index.now, c.requires.given.split)
+pub of-rules-requires-clause-rising : goal.of-rules-requires-clause-rising
+of-rules-requires-clause-rising c = c.requires.given.split.zeros_rise
+
+pub of-requires-clause-rules : goal.of-requires-clause-rules
+of-requires-clause-rules c =
+    (c.args.given.bodies.entries.now, c.args.given.index.now, c.of-rules.ensures.split _ _ c.requires.given.split)
 
 pub row_number-requires-clause-near : goal.row_number-requires-clause-near
 row_number-requires-clause-near c = (
@@ -22,7 +26,9 @@ row_number-requires-clause-row c =
     let g = c.requires.given in (
       c.args.given.table,
       c.args.action,
-      row_numbers _ _ _ _ _ _ _ _ _ _ g.weighted g.shape g.sound g.index g.split c.newest_whole-whole.ensures c.in_ok-row.ensures,
+      row_numbers _ _ _ _ _ _ _ _ _ _ g.weighted g.shape g.sound g.index (c.of-rules.ensures.split _ _ g.split) c.of-rules.ensures.table
+          c.of-rules.ensures.action
+          c.newest_whole-whole.ensures c.in_ok-row.ensures,
     )
 
 pub is_proper-requires : goal.is_proper-requires
@@ -30,7 +36,8 @@ is_proper-requires c =
     let g = c.requires.given in
     let row = row_numbers _ _ _ _ _
     _ _ _ _ _
-    g.weighted g.shape g.sound g.index g.split c.newest_whole-whole.ensures c.in_ok-row.ensures in
+    g.weighted g.shape g.sound g.index (c.of-rules.ensures.split _ _ g.split) c.of-rules.ensures.table c.of-rules.ensures.action
+    c.newest_whole-whole.ensures c.in_ok-row.ensures in
     record { number = row_within _ _ _ _ (c.in_ok-number.ensures.row c.args.given.table c.args.action row) }
 
 pub loop-state-preserved : goal.loop-state-preserved
@@ -38,7 +45,8 @@ loop-state-preserved c =
     let g = c.requires.given in
     let row = row_numbers _ _ _ _ _
     _ _ _ _ _
-    g.weighted g.shape g.sound g.index g.split c.newest_whole-whole.ensures c.in_ok-row.ensures in
+    g.weighted g.shape g.sound g.index (c.of-rules.ensures.split _ _ g.split) c.of-rules.ensures.table c.of-rules.ensures.action
+    c.newest_whole-whole.ensures c.in_ok-row.ensures in
     let here = c.in_ok-number.ensures.row c.args.given.table c.args.action row in (
       line_more _ _ _ _ _ _ _ _ c.loop-state.invariant.0
           c.in_ok-number.ensures.stays here ((c.is_proper.ensures c.args.given.bodies.shape.columns c.args.given.bodies.entries.now _
@@ -54,7 +62,8 @@ returns-then-not-is_proper-clause-rows c =
     let g = c.requires.given in
     let row = row_numbers _ _ _ _ _
     _ _ _ _ _
-    g.weighted g.shape g.sound g.index g.split c.newest_whole-whole.ensures c.in_ok-row.ensures in
+    g.weighted g.shape g.sound g.index (c.of-rules.ensures.split _ _ g.split) c.of-rules.ensures.table c.of-rules.ensures.action
+    c.newest_whole-whole.ensures c.in_ok-row.ensures in
     let here = c.in_ok-number.ensures.row c.args.given.table c.args.action row in
     record {
       table_is = refl;
