@@ -28,7 +28,7 @@ abbrev pub base_reward : BaseRewards → ℕ → ℤ
 base_reward (Common reward) z = reward
 base_reward (Listed rewards) z = slice_index_or rewards.now z (pos 0)
 
--- there is room for as many observations
+-- a list has one reward for each observation
 abbrev pub HasBase : BaseRewards → ℕ → Type 0
 HasBase (Common reward) count = Unit {0}
 HasBase (Listed rewards) count = length rewards.now ≡ count

@@ -1,8 +1,9 @@
 //! Rewards that observations, end states or both have in common or from one list, except a few.
 
-ghost use Rattle.std.specs.Prelude.{◌≡◌, ℕ, ◌<◌, ℤ, List};
+ghost use Rattle.std.specs.Prelude.{◌≡◌, ◌↔◌, ℕ, ◌<◌, ℤ, List, Some};
 ghost use Rattle.std.specs.Option.{ForSome};
 ghost use Rattle.polcert_cells.specs.CommonRewards.{IsRewardRow};
+ghost use Rattle.polcert_cells.specs.declared.common_reward.BaseRewards.TheVariants.{Common};
 ghost use Rattle.polcert_cells.specs.declared.common_reward.RewardCell.{RewardCell as Exception};
 
 /// A reward that differs from the common one. `observation` numbers what has it: an observation, or what the function that fills it in
@@ -36,14 +37,16 @@ pub struct RewardRow<'a> {
     pub base: BaseRewards<'a>,
     /// How many of the rewards that are filled in count: those that may differ from the base.
     pub exceptions: usize,
-    /// The end states before this one have the same rewards, from that on for which the rewards were found.
+    /// The end states from that of these rewards to the one before this have the same rewards.
     pub until: usize,
 }
 
 impl RewardRow<'_> {
     /// Returns the reward that all observations are known to have. `None`: they may have several.
     pub fn constant(&self) -> Option<i64>
-        ensures { ForSome result (λ h. (r : ℕ → ℤ) (count : ℕ) (cells : List Exception) →
+        ensures found { (h : ℤ) →
+            (result ≡ Some h) ↔ ((self.now.base ≡ Common h) × (self.now.exceptions ≡ 0)) }
+        ensures all { ForSome result (λ h. (r : ℕ → ℤ) (count : ℕ) (cells : List Exception) →
             IsRewardRow r count self.now cells → (z : ℕ) → z < count → r z ≡ h) }
     {
         if self.exceptions > 0 {

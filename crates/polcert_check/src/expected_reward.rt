@@ -146,9 +146,7 @@ fn fill_listed(list: &[i64], count: usize, exceptions: &[RewardCell], rewards: &
     ensures { (r : ℕ → ℤ) → AreListedBut list.now r count exceptions.now →
         (z : ℕ) → z < length list.now → slice_index_or rewards.new z (pos 0) ≡ r z }
 {
-    for i in 0..list.len() {
-        rewards[i] = list[i];
-    }
+    rewards[..list.len()].copy_from_slice(list);
     for k in 0..count {
         let cell = exceptions[k];
         rewards[cell.observation] = cell.reward;

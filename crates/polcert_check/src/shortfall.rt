@@ -2,6 +2,7 @@
 ghost use Rattle.std.specs.Prelude.{◌≡◌, ◌<◌, ◌≤◌, unsigned_abs, ℕ, ◌+◌, ◌^◌, ◌*◌, pos, ◌+ℤ◌, ◌-ℤ◌, ◌*ℤ◌, ◌<ℤ◌, ◌≤ℤ◌};
 ghost use Rattle.std.specs.Prelude.{IsTrue};
 ghost use Rattle.polcert_check.specs.Steps.Mirrored.{signed_from};
+ghost use Rattle.polcert_cells.specs.Tables.{IsWithinLimits};
 ghost use Rattle.polcert_policy.specs.Graphs.{nodes};
 ghost use Rattle.polcert_check.specs.Horizon.{Fits, controller_of, one};
 ghost use Rattle.polcert_check.specs.Shortfall.{most_short, short};
@@ -215,11 +216,11 @@ pub fn ceil_quotient(amount: u128, divisor: u128) -> u128
     (amount - 1) / divisor + 1
 }
 
-/// Returns a quotient, rounded up. It is at most the sum of three values in size.
+/// Returns a quotient, rounded up. It is at most the sum of four values in size.
 pub fn small_quotient(amount: u128, scale: u128) -> i64
     requires some { 0 < amount }
     requires scale { 0 < scale }
-    requires small { amount ≤ scale * (3 * largest) }
+    requires small { amount ≤ scale * (4 * largest) }
     ensures { IsCeilQuotient (pos amount) scale result }
 {
     ceil_quotient(amount, scale) as i64
@@ -229,8 +230,8 @@ pub fn small_quotient(amount: u128, scale: u128) -> i64
 /// amount divided by its scale, which is `t_scale` times `o_scale` times 1,000,000.
 pub fn millionths_short<C: Cells>(cells: &C, amount: i128) -> i64
     requires short { pos 0 <ℤ amount }
-    requires small { unsigned_abs
-        amount ≤ 3 * ((C.table cells.now).t_scale * (C.table cells.now).o_scale * one) * largest }
+    requires small { IsWithinLimits (C.table cells.now) → unsigned_abs
+        amount ≤ 4 * ((C.table cells.now).t_scale * (C.table cells.now).o_scale * one) * largest }
     ensures { IsCeilQuotient amount ((C.table cells.now).t_scale * (C.table cells.now).o_scale * one) result }
 {
     let scale = (cells.t_scale() * cells.o_scale()) as u128 * 1_000_000;

@@ -5,7 +5,6 @@
 mod inputs;
 pub mod laws;
 mod lines;
-mod millionths;
 mod move_runs;
 mod moves;
 mod near;

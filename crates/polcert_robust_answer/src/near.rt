@@ -9,10 +9,9 @@ ghost use Rattle.polcert_robust_answer.specs.Steps.Nearby.{FitNear, IsNearAmount
 
 use crate::inputs::NearInputs;
 use crate::lines::NearLine;
-use crate::millionths::ceil_millionths;
 use crate::spread::{distance_in, start_distance_in};
 use crate::within::Within;
-use polcert_check::{AboveVerdict, Progress, Verdict};
+use polcert_check::{AboveVerdict, Progress, Verdict, millionths_short};
 use polcert_robust::{
     check_robust_above_watched, check_robust_watched, start_most_near, start_worth_near,
 };
@@ -68,7 +67,7 @@ fn millionths_near(given: &NearInputs, within: &Within<'_>, amount: i128) -> i64
     let nodes = given.graph.nodes();
     let vector_count = given.vectors.nodes();
     prove!(nodes == vector_count);
-    ceil_millionths(&given.model, amount)
+    millionths_short(&given.model, amount)
 }
 
 impl NearBound for NearLower {

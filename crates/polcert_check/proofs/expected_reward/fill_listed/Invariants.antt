@@ -3,10 +3,6 @@ use Rattle.polcert_check.specs.Steps.Exceptions.{AreListedBut}
 use Rattle.polcert_check.proofs.Walking.Overlaid.{IsOverlaid}
 use Rattle.polcert_check.proofs.expected_reward.fill_listed.Given as goal
 
--- the first numbers stand in the list
-abbrev pub invariant-loop-i : goal.invariant-loop-i
-invariant-loop-i l = (z : ℕ) → z < l.i → slice_index_or l.rewards z (pos 0) ≡ slice_index_or l.list z (pos 0)
-
 -- the rewards of the first exceptions are filled in
 abbrev pub invariant-loop-k : goal.invariant-loop-k
 invariant-loop-k l = (r : ℕ → ℤ) → AreListedBut l.list r l.count l.exceptions

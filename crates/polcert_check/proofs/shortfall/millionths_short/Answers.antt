@@ -5,7 +5,7 @@ use Rattle.polcert_check.proofs.Common.{ints, largest, one, IsCeilQuotient}
 use Rattle.polcert_check.proofs.Sums.Scales.{scales_le}
 use Rattle.polcert_check.proofs.shortfall.millionths_short.Goals as goal
 
-small_enough : (amount t o : ℕ) → amount ≤ 3 * (t * o * one) * largest → amount ≤ t * o * 1000000 * 30000000000000
+small_enough : (amount t o : ℕ) → amount ≤ 4 * (t * o * one) * largest → amount ≤ t * o * 1000000 * 40000000000000
 unfolding one
 small_enough amount t o small = omega (arith, small)
 
@@ -19,7 +19,9 @@ unfolding one
 quotient amount t o q some is = subst (λ a. IsCeilQuotient a (t * o * 1000000) q) (positive amount some) is
 
 pub small_quotient-requires-clause-small : goal.small_quotient-requires-clause-small
-small_quotient-requires-clause-small g c = grind (arith, to_z-of_z, small_enough)
+small_quotient-requires-clause-small g c =
+    let small = c.requires.small (g.met.C.Cells.is_within_limits c.args.cells.now) in
+    grind (arith, to_z-of_z, small_enough, small)
 
 pub overflow_mul-scale : goal.overflow_mul-scale
 overflow_mul-scale g c = grind (arith, scales_le)

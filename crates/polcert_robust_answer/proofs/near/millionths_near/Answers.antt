@@ -5,8 +5,8 @@ use Rattle.polcert_robust_answer.proofs.Common.{CellTable, meaning, table_of}
 use Rattle.polcert_robust_answer.proofs.Small.{either_small}
 use Rattle.polcert_robust_answer.proofs.near.millionths_near.Goals as goal
 
-pub ceil_millionths-requires-clause-small : goal.ceil_millionths-requires-clause-small
-ceil_millionths-requires-clause-small c = λ limits.
+pub millionths_short-requires-clause-small : goal.millionths_short-requires-clause-small
+millionths_short-requires-clause-small c = λ limits.
     let t : CellTable = table_of (meaning c.args.given.now.model) in
     let w = c.args.within.now in
     let fits : FitsSigned w128 c.args.amount = search rules in

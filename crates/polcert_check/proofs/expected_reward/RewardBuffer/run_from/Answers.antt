@@ -10,7 +10,7 @@ returns-in-Some-clause-run g c = record {
   reward = to_z-of_z w128 c.sum_of_row.result (search rules) ∙ c.sum_of_row.ensures;
   same = c.find_rewards.ensures.until c.in-Some.row c.in-Some.is;
   constant = λ t. constant_row (g.C.Cells.table c.args.cells.now) c.args.a c.args.s c.args.e c.in-Some.row
-      c.find_rewards.new.exceptions c.constant.result (c.find_rewards.ensures.row c.in-Some.row c.in-Some.is) c.constant.ensures
+      c.find_rewards.new.exceptions c.constant.result (c.find_rewards.ensures.row c.in-Some.row c.in-Some.is) c.constant.ensures.all
       (search rules);
 }
 
