@@ -2,7 +2,7 @@
 use self::runs::{Answer, Devices, Run, SOUND, over_devices, over_slices};
 use polcert_answer::{Fault, RunFault, run_model, status_of};
 use polcert_model::{ItemFault, ModelFault, Table};
-use polcert_testing::{FIRST, refused_models};
+use polcert_testing::{FIRST, expect_eq, refused_models};
 use polcert_text::{NumberFault, Sink, SinkFailed, SliceSink, SliceSource, TokenFault};
 use std::alloc::Global;
 use std::test::Fail;
@@ -53,11 +53,10 @@ fn reads_of_the_first(alloc: Global, most: usize) -> Option<u64> {
 #[test]
 fn reads_in_pieces(rt: HostRuntime) {
     for (most, reads) in [(1usize, 126u64), (2, 64), (3, 43), (7, 19)] {
-        assert_eq!(rt;
+        expect_eq!(rt;
             reads_of_the_first(rt.alloc(), most),
             Some(reads),
-            "pieces of {most}"
-        );
+            most);
     }
 }
 
@@ -67,20 +66,20 @@ fn a_full_slice_is_a_failed_write(rt: HostRuntime) {
     let mut short = [0u8; 65];
     let mut sink = SliceSink::new(&mut short);
     let result = run_model(rt.alloc(), &mut SliceSource::new(FIRST), &mut sink);
-    assert_eq!(rt; result, Err(RunFault::Write));
+    expect_eq!(rt; result, Err(RunFault::Write));
     let mut room = [0u8; 66];
     let mut sink = SliceSink::new(&mut room);
     let result = run_model(rt.alloc(), &mut SliceSource::new(FIRST), &mut sink);
-    assert_eq!(rt; result, Ok(()));
-    assert_eq!(rt; sink.written(), LINE);
+    expect_eq!(rt; result, Ok(()));
+    expect_eq!(rt; sink.written(), LINE);
 }
 
 /// The line and the status of a model that is too large to print.
 #[test]
 fn too_large_to_print(rt: HostRuntime) -> Result<(), Fail> {
     let fault = RunFault::TooLargeToPrint;
-    assert_eq!(rt; format!(in rt.alloc(); "{fault}")?.as_str(), "print: C1");
-    assert_eq!(rt; status_of(&fault), 2);
+    expect_eq!(rt; format!(in rt.alloc(); "{fault}")?.as_str(), "print: C1");
+    expect_eq!(rt; status_of(&fault), 2);
     Ok(())
 }
 
@@ -102,8 +101,8 @@ fn reads_before_a_failure(alloc: Global, text: &[u8]) -> Option<u64> {
 /// The first 123 bytes of FIRST are refused at their end; a source that fails after them is no refused text.
 #[test]
 fn a_failed_read_is_no_end(rt: HostRuntime) {
-    assert_eq!(rt; reads_before_a_failure(rt.alloc(), &FIRST[..123]), Some(2));
-    assert_eq!(rt; status_of(&RunFault::ReadModel), 3);
+    expect_eq!(rt; reads_before_a_failure(rt.alloc(), &FIRST[..123]), Some(2));
+    expect_eq!(rt; status_of(&RunFault::ReadModel), 3);
 }
 
 #[test]
@@ -146,7 +145,7 @@ fn first_summed(alloc: Global, rows: &[(&'static [u8], ItemFault, u64, u64)]) ->
 
 #[test]
 fn refused_texts(rt: HostRuntime) {
-    assert_eq!(rt; first_summed(rt.alloc(), &refused_models()), None);
+    expect_eq!(rt; first_summed(rt.alloc(), &refused_models()), None);
 }
 
 #[test]
@@ -183,7 +182,7 @@ fn a_line_is_one_write(rt: HostRuntime) {
         bytes: 0,
     };
     let result = run_model(rt.alloc(), &mut SliceSource::new(FIRST), &mut sink);
-    assert_eq!(rt; result, Ok(()));
-    assert_eq!(rt; sink.writes, 1);
-    assert_eq!(rt; sink.bytes, 66);
+    expect_eq!(rt; result, Ok(()));
+    expect_eq!(rt; sink.writes, 1);
+    expect_eq!(rt; sink.bytes, 66);
 }

@@ -3,6 +3,7 @@ ghost use Rattle.polcert_check_tests.specs.Worked.Examples.{even_table, even_is_
 use polcert_check::{LowerFault, Verdict, amount_short, check, fits, least_constant, lowered};
 use polcert_model::Cells;
 use polcert_policy::{Graph, Vectors, read_graph, read_vectors};
+use polcert_testing::expect_eq;
 use std::alloc::Global;
 use std::test::Fail;
 
@@ -104,40 +105,43 @@ fn lowering(
     }
 }
 
+/// Graphs and vectors for HALF, and the verdict.
+const VERDICTS: &[(&[u8], &[u8], Verdict)] = &[
+    (b"0 0 0 -", b"0 -2 -2", Verdict::Yes),
+    (
+        b"0 0 0 -",
+        b"0 -2 -1.999999",
+        Verdict::Short {
+            node: 0,
+            state: 1,
+            amount: 3_000_000_000_000_000_000,
+        },
+    ),
+    (
+        b"0 0 1 - 1 0 0 -",
+        b"0 -2 -2 0 -2 2",
+        Verdict::Short {
+            node: 1,
+            state: 1,
+            amount: 16_000_000_000_000_000_000_000_000,
+        },
+    ),
+    (
+        b"0 0 0 - 1 0 - 0",
+        b"0 -2 -2 0 2 2",
+        Verdict::NoSuccessor {
+            node: 1,
+            state: 0,
+            observation: 0,
+        },
+    ),
+];
+
 #[test]
 fn verdicts(rt: HostRuntime) -> Result<(), Fail> {
-    for (graph, vectors, want) in [
-        (b"0 0 0 -".as_slice(), b"0 -2 -2".as_slice(), Verdict::Yes),
-        (
-            b"0 0 0 -",
-            b"0 -2 -1.999999",
-            Verdict::Short {
-                node: 0,
-                state: 1,
-                amount: 3_000_000_000_000_000_000,
-            },
-        ),
-        (
-            b"0 0 1 - 1 0 0 -",
-            b"0 -2 -2 0 -2 2",
-            Verdict::Short {
-                node: 1,
-                state: 1,
-                amount: 16_000_000_000_000_000_000_000_000,
-            },
-        ),
-        (
-            b"0 0 0 - 1 0 - 0",
-            b"0 -2 -2 0 2 2",
-            Verdict::NoSuccessor {
-                node: 1,
-                state: 0,
-                observation: 0,
-            },
-        ),
-    ] {
+    for &(graph, vectors, want) in VERDICTS {
         let (graph, vectors) = read(rt.alloc(), graph, vectors)?;
-        assert_eq!(rt; verdict(&HALF, &graph, &vectors), Some(want));
+        expect_eq!(rt; verdict(&HALF, &graph, &vectors), Some(want));
     }
     Ok(())
 }
@@ -176,7 +180,7 @@ fn lowered_vectors(rt: HostRuntime) -> Result<(), Fail> {
         ),
     ] {
         let (graph, vectors) = read(alloc, graph, vectors)?;
-        assert_eq!(rt; lowering(alloc, &model, &graph, &vectors), Some(want));
+        expect_eq!(rt; lowering(alloc, &model, &graph, &vectors), Some(want));
     }
     Ok(())
 }
@@ -186,15 +190,15 @@ fn shortfalls(rt: HostRuntime) -> Result<(), Fail> {
     let (graph, vectors) = read(rt.alloc(), b"0 0 0 -", b"0 -3 2")?;
     assert!(rt; fits(&HALF, &graph, &vectors));
     assert!(rt; graph.nodes() == 1);
-    assert_eq!(rt;
+    expect_eq!(rt;
         amount_short(&HALF, &graph, &vectors, 0, 0),
         -7_000_000_000_000_000_000_000_000
     );
-    assert_eq!(rt;
+    expect_eq!(rt;
         amount_short(&HALF, &graph, &vectors, 0, 1),
         13_000_000_000_000_000_000_000_000
     );
-    assert_eq!(rt; least_constant(&HALF, &graph, &vectors), Ok(6_500_000));
+    expect_eq!(rt; least_constant(&HALF, &graph, &vectors), Ok(6_500_000));
     Ok(())
 }
 

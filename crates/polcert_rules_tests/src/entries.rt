@@ -3,39 +3,54 @@ use crate::kept::push_if_kept;
 use polcert_cells::{
     Body, BodyRef, Cell, Entries, Entry, Names, Place, Places, Row, Sequence, Table,
 };
+use polcert_testing::expect_eq;
 use std::alloc::{AllocError, Global};
+use std::io::Write;
+use std::process::Abort;
 use std::test::Fail;
 
+const LETTERS_OF_TABLES: &[(Table, &[u8])] = &[
+    (Table::Transition, b"T"),
+    (Table::Observation, b"O"),
+    (Table::Reward, b"R"),
+];
+
+/// Whether the table is printed as this text.
+fn is_printed(alloc: Global, table: Table, text: &[u8]) -> bool {
+    let mut printed = Vec::new(alloc);
+    write!(printed, "{table}").is_ok() && printed.as_slice() == text
+}
+
 #[test]
-fn tables_print_their_letter(rt: HostRuntime) -> Result<(), Fail> {
-    let alloc = rt.alloc();
-    for (table, letter) in [
-        (Table::Transition, "T"),
-        (Table::Observation, "O"),
-        (Table::Reward, "R"),
-    ] {
-        assert_eq!(rt; format!(in alloc; "{table}")?.as_str(), letter);
+fn tables_print_their_letter(rt: HostRuntime) {
+    for &(table, letter) in LETTERS_OF_TABLES {
+        assert!(rt; is_printed(rt.alloc(), table, letter));
     }
+}
+
+/// Pushes and sets items, and fails the test unless they are kept. (It borrows the list: to drop it at each took 9 seconds of proof.)
+fn expect_kept_items(rt: &impl Abort, places: &mut Sequence<Place>) -> Result<(), AllocError> {
+    assert!(rt; places.len() == 0);
+    places.push(Place::Only(3))?;
+    expect_eq!(rt; places.as_slice(), [Place::Only(3)].as_slice());
+    places.set(0, Place::Every);
+    expect_eq!(rt; places.at(0), Place::Every);
+    places.push(Place::Only(7))?;
+    places.push(Place::Only(9))?;
+    assert!(rt; places.len() == 3);
+    expect_eq!(rt; places.at(2), Place::Only(9));
+    places.set(0, Place::Only(1));
+    expect_eq!(rt;
+        places.as_slice(),
+        [Place::Only(1), Place::Only(7), Place::Only(9)].as_slice()
+    );
     Ok(())
 }
 
 #[test]
 fn sequence_keeps_its_items(rt: HostRuntime) -> Result<(), Fail> {
     let mut places = Sequence::new(rt.alloc());
-    assert!(rt; places.len() == 0);
-    places.push(Place::Only(3))?;
-    assert_eq!(rt; places.as_slice(), [Place::Only(3)].as_slice());
-    places.set(0, Place::Every);
-    assert_eq!(rt; places.at(0), Place::Every);
-    places.push(Place::Only(7))?;
-    places.push(Place::Only(9))?;
-    assert!(rt; places.len() == 3);
-    assert_eq!(rt; places.at(2), Place::Only(9));
-    places.set(0, Place::Only(1));
-    assert_eq!(rt;
-        places.as_slice(),
-        [Place::Only(1), Place::Only(7), Place::Only(9)].as_slice()
-    );
+    expect_kept_items(&rt, &mut places)?;
     Ok(())
 }
 
@@ -44,7 +59,7 @@ fn an_entry_has_four_places(rt: HostRuntime) -> Result<(), Fail> {
     let four = [Place::Only(0), Place::Every, Place::Only(999), Place::Every];
     let places = places_of(&four);
     assert!(rt; places.len() == 4);
-    assert_eq!(rt; places.as_slice(), four.as_slice());
+    expect_eq!(rt; places.as_slice(), four.as_slice());
     Ok(())
 }
 
@@ -126,43 +141,48 @@ fn each_element_is_kept(rt: HostRuntime) -> Result<(), Fail> {
     ];
     put(&mut entries, Table::Transition, &last, Body::Uniform)?;
     assert!(rt; entries.len() == 1);
-    assert_eq!(rt; entries.at(0).places.as_slice(), last.as_slice());
+    expect_eq!(rt; entries.at(0).places.as_slice(), last.as_slice());
     Ok(())
+}
+
+/// Fails the test unless the entries are those of `put_each_body`. (It borrows them: to drop them at each assertion took 30 seconds of proof.)
+fn expect_each_body(rt: &impl Abort, entries: &Entries) {
+    assert!(rt; entries.len() == 5);
+    let borrowed = entries.at(0);
+    expect_eq!(rt; borrowed.table, Table::Transition);
+    expect_eq!(rt; borrowed.places.as_slice(), [Place::Only(1)].as_slice());
+    assert!(rt; matches!(borrowed.body, BodyRef::Identity));
+    let borrowed = entries.at(1);
+    expect_eq!(rt; borrowed.table, Table::Observation);
+    expect_eq!(rt;
+        borrowed.places.as_slice(),
+        [Place::Every, Place::Only(2)].as_slice()
+    );
+    expect_eq!(rt;
+        probabilities(borrowed.body),
+        Some([1_000_000, 0].as_slice())
+    );
+    let borrowed = entries.at(2);
+    expect_eq!(rt; borrowed.table, Table::Reward);
+    expect_eq!(rt;
+        borrowed.places.as_slice(),
+        [Place::Only(0), Place::Every, Place::Every, Place::Only(999)].as_slice()
+    );
+    expect_eq!(rt; rewards(borrowed.body), Some([-5].as_slice()));
+    assert!(rt; matches!(entries.at(3).body, BodyRef::Uniform));
+    let borrowed = entries.at(4);
+    expect_eq!(rt;
+        borrowed.places.as_slice(),
+        [Place::Every, Place::Only(2)].as_slice()
+    );
+    expect_eq!(rt; probabilities(borrowed.body), Some([7].as_slice()));
 }
 
 #[test]
 fn entries_are_borrowed_as_they_were_put(rt: HostRuntime) -> Result<(), Fail> {
     let mut entries = Entries::new(rt.alloc());
     put_each_body(rt.alloc(), &mut entries)?;
-    assert!(rt; entries.len() == 5);
-    let borrowed = entries.at(0);
-    assert_eq!(rt; borrowed.table, Table::Transition);
-    assert_eq!(rt; borrowed.places.as_slice(), [Place::Only(1)].as_slice());
-    assert!(rt; matches!(borrowed.body, BodyRef::Identity));
-    let borrowed = entries.at(1);
-    assert_eq!(rt; borrowed.table, Table::Observation);
-    assert_eq!(rt;
-        borrowed.places.as_slice(),
-        [Place::Every, Place::Only(2)].as_slice()
-    );
-    assert_eq!(rt;
-        probabilities(borrowed.body),
-        Some([1_000_000, 0].as_slice())
-    );
-    let borrowed = entries.at(2);
-    assert_eq!(rt; borrowed.table, Table::Reward);
-    assert_eq!(rt;
-        borrowed.places.as_slice(),
-        [Place::Only(0), Place::Every, Place::Every, Place::Only(999)].as_slice()
-    );
-    assert_eq!(rt; rewards(borrowed.body), Some([-5].as_slice()));
-    assert!(rt; matches!(entries.at(3).body, BodyRef::Uniform));
-    let borrowed = entries.at(4);
-    assert_eq!(rt;
-        borrowed.places.as_slice(),
-        [Place::Every, Place::Only(2)].as_slice()
-    );
-    assert_eq!(rt; probabilities(borrowed.body), Some([7].as_slice()));
+    expect_each_body(&rt, &entries);
     Ok(())
 }
 
@@ -273,9 +293,9 @@ fn first_misnumbered(names: &Names) -> Option<usize> {
 #[test]
 fn names_keep_their_numbers_under_another_key(rt: HostRuntime) -> Result<(), Fail> {
     let mut names = Names::new(rt.alloc());
-    assert_eq!(rt; add_pairs(&mut names, rt.alloc())?, 324);
-    assert_eq!(rt; first_misnumbered(&names), None);
-    assert_eq!(rt; add_pairs(&mut names, rt.alloc())?, 0);
-    assert_eq!(rt; names.len(), 324);
+    expect_eq!(rt; add_pairs(&mut names, rt.alloc())?, 324);
+    expect_eq!(rt; first_misnumbered(&names), None);
+    expect_eq!(rt; add_pairs(&mut names, rt.alloc())?, 0);
+    expect_eq!(rt; names.len(), 324);
     Ok(())
 }

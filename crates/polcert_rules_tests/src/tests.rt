@@ -7,6 +7,7 @@ use polcert_cells::{
     BaseRewards, Body, Entries, Entry, Place, Places, RewardCell, Sequence, Table,
 };
 use polcert_rules::{Index, RewardShape, Rewards};
+use polcert_testing::expect_eq;
 use std::alloc::{AllocError, Global};
 
 const SHAPE: RewardShape = RewardShape {
@@ -119,7 +120,7 @@ fn filled_at(rewards: &Rewards, action: usize, start: usize, end: usize) -> [i64
 }
 
 /// Each of the 28 patterns alone, with the rewards of all cells: by action, start state, end state and observation.
-const PATTERNS: [(&[usize], &[i64], [i64; CELLS]); 28] = [
+const PATTERNS: &[(&[usize], &[i64], [i64; CELLS])] = &[
     (
         &[ANY, ANY],
         &[1, 2, 3, 4],
@@ -264,23 +265,21 @@ const PATTERNS: [(&[usize], &[i64], [i64; CELLS]); 28] = [
 
 #[test]
 fn each_pattern_alone(rt: HostRuntime) {
-    for (pattern, written, wanted) in PATTERNS {
-        assert_eq!(rt;
+    for &(pattern, written, wanted) in PATTERNS {
+        expect_eq!(rt;
             cells(rt.alloc(), false, &[(pattern, written)]),
             Some(wanted),
-            "{pattern:?}"
-        );
-        assert_eq!(rt;
+            pattern);
+        expect_eq!(rt;
             filled(rt.alloc(), false, &[(pattern, written)]),
             Some(wanted),
-            "{pattern:?}"
-        );
+            pattern);
     }
 }
 
 #[test]
 fn costs_are_turned(rt: HostRuntime) {
-    assert_eq!(rt;
+    expect_eq!(rt;
         cells(rt.alloc(), true, &[(&[ANY, ANY], &[1, -2, 3, 4])]),
         Some([-1, 2, -3, -4, -1, 2, -3, -4, -1, 2, -3, -4, -1, 2, -3, -4])
     );
@@ -291,7 +290,7 @@ const WIDE: (&[usize], &[i64]) = (&[ANY, 0, ANY, ANY], &[5]);
 const NARROW: (&[usize], &[i64]) = (&[1, ANY, 1], &[8, 9]);
 
 /// Lists of entries in which some hide others, with the rewards of all cells.
-const HIDDEN: [(&[(&[usize], &[i64])], [i64; CELLS]); 4] = [
+const HIDDEN: &[(&[(&[usize], &[i64])], [i64; CELLS])] = &[
     (
         &[WIDE, NARROW, (&[ANY, ANY, ANY, ANY], &[2]), NARROW],
         [2, 2, 2, 2, 2, 2, 2, 2, 2, 2, 8, 9, 2, 2, 8, 9],
@@ -312,9 +311,9 @@ const HIDDEN: [(&[(&[usize], &[i64])], [i64; CELLS]); 4] = [
 
 #[test]
 fn the_last_entry_hides(rt: HostRuntime) {
-    for (lines, wanted) in HIDDEN {
-        assert_eq!(rt; cells(rt.alloc(), false, lines), Some(wanted), "{lines:?}");
-        assert_eq!(rt; filled(rt.alloc(), false, lines), Some(wanted), "{lines:?}");
+    for &(lines, wanted) in HIDDEN {
+        expect_eq!(rt; cells(rt.alloc(), false, lines), Some(wanted), lines);
+        expect_eq!(rt; filled(rt.alloc(), false, lines), Some(wanted), lines);
     }
 }
 
@@ -381,14 +380,14 @@ fn rewards_alike(rt: HostRuntime) {
         (&[0, 1, 0, 1], &[7]),
     ];
     let alloc = rt.alloc();
-    assert_eq!(rt; alike_at(alloc, &lines, 1, 0, 1), Some(Some(5)));
-    assert_eq!(rt; alike_at(alloc, &lines, 1, 1, 0), Some(None));
-    assert_eq!(rt; alike_at(alloc, &lines, 0, 1, 0), Some(None));
-    assert_eq!(rt; alike_at(alloc, &lines, 0, 1, 1), Some(Some(0)));
-    assert_eq!(rt; listed_at(alloc, &lines, 1, 1, 0), Some([Some(3), Some(4)]));
-    assert_eq!(rt; listed_at(alloc, &lines, 1, 1, 1), Some([Some(5), Some(6)]));
-    assert_eq!(rt; listed_at(alloc, &lines, 1, 0, 1), None);
-    assert_eq!(rt; listed_at(alloc, &lines, 0, 1, 0), None);
+    expect_eq!(rt; alike_at(alloc, &lines, 1, 0, 1), Some(Some(5)));
+    expect_eq!(rt; alike_at(alloc, &lines, 1, 1, 0), Some(None));
+    expect_eq!(rt; alike_at(alloc, &lines, 0, 1, 0), Some(None));
+    expect_eq!(rt; alike_at(alloc, &lines, 0, 1, 1), Some(Some(0)));
+    expect_eq!(rt; listed_at(alloc, &lines, 1, 1, 0), Some([Some(3), Some(4)]));
+    expect_eq!(rt; listed_at(alloc, &lines, 1, 1, 1), Some([Some(5), Some(6)]));
+    expect_eq!(rt; listed_at(alloc, &lines, 1, 0, 1), None);
+    expect_eq!(rt; listed_at(alloc, &lines, 0, 1, 0), None);
 }
 
 fn same_at(alloc: Global, lines: &[Line], at: [usize; 3]) -> Option<bool> {
@@ -428,7 +427,7 @@ const SAME: &[(&[Line], [usize; 3], bool)] = &[
 #[test]
 fn the_same_in_two_states(rt: HostRuntime) {
     for &(lines, at, is_same) in SAME {
-        assert_eq!(rt; same_at(rt.alloc(), lines, at), Some(is_same));
+        expect_eq!(rt; same_at(rt.alloc(), lines, at), Some(is_same));
     }
 }
 
@@ -465,7 +464,7 @@ const UNTIL: &[(&[Line], [usize; 3], usize)] = &[
 #[test]
 fn the_same_up_to_an_end_state(rt: HostRuntime) {
     for &(lines, at, until) in UNTIL {
-        assert_eq!(rt; until_at(rt.alloc(), lines, at), Some(until));
+        expect_eq!(rt; until_at(rt.alloc(), lines, at), Some(until));
     }
 }
 
@@ -508,25 +507,25 @@ fn rewards_of_a_row(rt: HostRuntime) {
     let common: (&[usize], &[i64]) = (&[ANY, ANY, ANY, ANY], &[5]);
     let one: (&[usize], &[i64]) = (&[1, 0, 1, 0], &[7]);
     let other: (&[usize], &[i64]) = (&[1, 0, 0, 1], &[8]);
-    assert_eq!(rt;
+    expect_eq!(rt;
         row_at(alloc, &[common, one, other], 1, 0),
         Some(Some((5, 2, [(1, 8), (2, 7)])))
     );
-    assert_eq!(rt;
+    expect_eq!(rt;
         row_at(alloc, &[one, common], 1, 0),
         Some(Some((5, 1, [(2, 5), (0, 99)])))
     );
-    assert_eq!(rt;
+    expect_eq!(rt;
         row_at(alloc, &[common, one, other], 1, 1),
         Some(Some((5, 0, [(0, 99), (0, 99)])))
     );
     // (There is no room for three.)
-    assert_eq!(rt;
+    expect_eq!(rt;
         row_at(alloc, &[one, other, (&[1, 0, 0, 0], &[9])], 1, 0),
         Some(None)
     );
     // (One names all observations of an end state.)
-    assert_eq!(rt;
+    expect_eq!(rt;
         row_at(alloc, &[one, (&[1, 0, 0, ANY], &[9])], 1, 0),
         Some(None)
     );
@@ -536,8 +535,8 @@ fn rewards_of_a_row(rt: HostRuntime) {
 fn what_is_paid(rt: HostRuntime) {
     let lines: [(&[usize], &[i64]); 2] = [(&[1, ANY, 1, 0], &[1]), (&[0, 1, ANY], &[1, 2])];
     let alloc = rt.alloc();
-    assert_eq!(rt; paid_at(alloc, &lines, 0, 0), Some(false));
-    assert_eq!(rt; paid_at(alloc, &lines, 0, 1), Some(true));
-    assert_eq!(rt; paid_at(alloc, &lines, 1, 0), Some(true));
-    assert_eq!(rt; paid_at(alloc, &[], 1, 1), Some(false));
+    expect_eq!(rt; paid_at(alloc, &lines, 0, 0), Some(false));
+    expect_eq!(rt; paid_at(alloc, &lines, 0, 1), Some(true));
+    expect_eq!(rt; paid_at(alloc, &lines, 1, 0), Some(true));
+    expect_eq!(rt; paid_at(alloc, &[], 1, 1), Some(false));
 }

@@ -1,6 +1,7 @@
 //! What the tests of several crates take: texts, sources that give them in pieces, and readers and writers of a few bytes at a call.
 #![tactic(auto)]
 
+mod compare;
 mod devices;
 mod pieces;
 mod refused;

@@ -3,7 +3,7 @@ use super::answers::{EITHER, LOSS, answer, first_accepted, refused_rows};
 use super::runs::{Answer, Run, Texts, gives, refuses};
 use polcert_answer::{Fault, RunFault, check_texts_above, status_of, status_of_above_verdict};
 use polcert_check::{AboveVerdict, RaiseFault, Verdict};
-use polcert_testing::{ALWAYS_FIRST, COST, MDP, TIGER, TWO_STATES};
+use polcert_testing::{ALWAYS_FIRST, COST, MDP, TIGER, TWO_STATES, expect_eq};
 use std::alloc::Global;
 
 /// One state that keeps to itself: 1 for each step, at a discount of 1.
@@ -144,8 +144,8 @@ fn first_not_too_low(alloc: Global, rows: &[(Texts<'static>, i128, &[u8])]) -> O
 
 #[test]
 fn answers_from_above(rt: HostRuntime) {
-    assert_eq!(rt; first_no(rt.alloc(), &yes_rows()), None);
-    assert_eq!(rt; first_not_too_low(rt.alloc(), &too_low_rows()), None);
+    expect_eq!(rt; first_no(rt.alloc(), &yes_rows()), None);
+    expect_eq!(rt; first_not_too_low(rt.alloc(), &too_low_rows()), None);
     let lack = AboveVerdict::NoSuccessor {
         node: 0,
         state: 0,
@@ -199,7 +199,7 @@ fn first_wrong_raise(alloc: Global, rows: &[(Texts<'static>, i64, &[u8])]) -> Op
 
 #[test]
 fn raises(rt: HostRuntime) {
-    assert_eq!(rt; first_wrong_raise(rt.alloc(), &RAISES), None);
+    expect_eq!(rt; first_wrong_raise(rt.alloc(), &RAISES), None);
 }
 
 /// Texts whose vectors no constant raises to pass, and why.
@@ -237,16 +237,16 @@ fn first_raised(alloc: Global, rows: &[(Texts<'static>, RaiseFault)]) -> Option<
 
 #[test]
 fn refuses_to_raise(rt: HostRuntime) {
-    assert_eq!(rt; first_raised(rt.alloc(), &UNRAISED), None);
-    assert_eq!(rt; status_of(&RunFault::Raise(RaiseFault::Memory)), 4);
+    expect_eq!(rt; first_raised(rt.alloc(), &UNRAISED), None);
+    expect_eq!(rt; status_of(&RunFault::Raise(RaiseFault::Memory)), 4);
 }
 
 /// What rounds to a yes from below and to a yes from above.
 #[test]
 fn the_same_file_from_both_sides(rt: HostRuntime) {
     let texts: Texts<'_> = (MDP, b"0 0 0 0", b"0 1.3333333 0.6666667");
-    assert_eq!(rt; answer(rt.alloc(), texts), Ok(Verdict::Yes));
-    assert_eq!(rt; answer_above(rt.alloc(), texts), Ok(AboveVerdict::Yes));
+    expect_eq!(rt; answer(rt.alloc(), texts), Ok(Verdict::Yes));
+    expect_eq!(rt; answer_above(rt.alloc(), texts), Ok(AboveVerdict::Yes));
 }
 
 /// The first row that the answer from above does not refuse for its fault.
@@ -263,12 +263,11 @@ fn first_answered_above(alloc: Global, rows: &[(Texts<'static>, Fault)]) -> Opti
 /// The first text that denotes nothing is refused, and nothing is written.
 #[test]
 fn refuses_texts_from_above(rt: HostRuntime) {
-    assert_eq!(rt; first_answered_above(rt.alloc(), &refused_rows()), None);
+    expect_eq!(rt; first_answered_above(rt.alloc(), &refused_rows()), None);
     for run in [Run::CheckAbove, Run::Raise] {
-        assert_eq!(rt;
+        expect_eq!(rt;
             first_accepted(rt.alloc(), run, &refused_rows()),
             None,
-            "{run:?}"
-        );
+            run);
     }
 }

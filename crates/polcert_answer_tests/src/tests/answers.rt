@@ -4,7 +4,7 @@ use polcert_answer::{Fault, RunFault, check_texts, status_of, status_of_verdict}
 use polcert_check::{LowerFault, Verdict};
 use polcert_model::{ItemFault, ModelFault};
 use polcert_policy::{GraphFault, VectorFault};
-use polcert_testing::{ALWAYS_FIRST, COST, MDP, TIGER, TWO_STATES};
+use polcert_testing::{ALWAYS_FIRST, COST, MDP, TIGER, TWO_STATES, expect_eq};
 use polcert_text::{NumberFault, TokenFault};
 use std::alloc::Global;
 
@@ -153,7 +153,7 @@ fn first_wrong_answer(
 
 #[test]
 fn answers(rt: HostRuntime) {
-    assert_eq!(rt; first_wrong_answer(rt.alloc(), &answered_rows()), None);
+    expect_eq!(rt; first_wrong_answer(rt.alloc(), &answered_rows()), None);
 }
 
 /// Texts, the constant by which their vectors are lowered, and what is written.
@@ -192,7 +192,7 @@ fn first_wrong_lowering(alloc: Global, rows: &[(Texts<'static>, i64, &[u8])]) ->
 
 #[test]
 fn lowers(rt: HostRuntime) {
-    assert_eq!(rt; first_wrong_lowering(rt.alloc(), &LOWERED), None);
+    expect_eq!(rt; first_wrong_lowering(rt.alloc(), &LOWERED), None);
 }
 
 /// Texts whose vectors no constant lowers to pass, and why.
@@ -238,7 +238,7 @@ fn first_lowered(alloc: Global, rows: &[(Texts<'static>, LowerFault)]) -> Option
 
 #[test]
 fn refuses_to_lower(rt: HostRuntime) {
-    assert_eq!(rt; first_lowered(rt.alloc(), &UNLOWERED), None);
+    expect_eq!(rt; first_lowered(rt.alloc(), &UNLOWERED), None);
 }
 
 /// Texts, and the fault of the first that denotes nothing.
@@ -362,12 +362,11 @@ pub fn first_accepted(alloc: Global, run: Run, rows: &[(Texts<'static>, Fault)])
 /// The first text that denotes nothing is refused, and nothing is written.
 #[test]
 fn refuses_texts(rt: HostRuntime) {
-    assert_eq!(rt; first_answered(rt.alloc(), &refused_rows()), None);
+    expect_eq!(rt; first_answered(rt.alloc(), &refused_rows()), None);
     for run in [Run::Check, Run::Lower] {
-        assert_eq!(rt;
+        expect_eq!(rt;
             first_accepted(rt.alloc(), run, &refused_rows()),
             None,
-            "{run:?}"
-        );
+            run);
     }
 }

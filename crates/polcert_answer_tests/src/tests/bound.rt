@@ -7,7 +7,7 @@ use polcert_check::{NoProgress, RaiseFault};
 use polcert_model::{ItemFault, ModelFault};
 use polcert_optimum::InformedVerdict;
 use polcert_policy::VectorFault;
-use polcert_testing::{Failing, Giver, MDP, TIGER, TWO_STATES, Taker};
+use polcert_testing::{Failing, Giver, MDP, TIGER, TWO_STATES, Taker, expect_eq};
 use polcert_text::{ReaderSource, WriterSink};
 use std::alloc::Global;
 
@@ -158,7 +158,7 @@ fn answered_yes(rt: HostRuntime) {
             b"yes: every policy, at most -0.000001\n",
         ),
     ];
-    assert_eq!(rt; first_no(rt.alloc(), &rows), None);
+    expect_eq!(rt; first_no(rt.alloc(), &rows), None);
 }
 
 /// Texts whose vector is exceeded at an action and a state, by how much on the scale of a step, and the line.
@@ -216,7 +216,7 @@ fn answered_no(rt: HostRuntime) {
             b"no: action 0, state 0, exceeded by 10000000\n",
         ),
     ];
-    assert_eq!(rt; first_not_exceeded(rt.alloc(), &rows), None);
+    expect_eq!(rt; first_not_exceeded(rt.alloc(), &rows), None);
 }
 
 #[test]
@@ -308,7 +308,7 @@ fn refused_texts(rt: HostRuntime) {
         ),
         ((TIGER, b"0 1 x"), Fault::Vectors(VectorFault::BadShape(4))),
     ];
-    assert_eq!(rt; first_accepted(rt.alloc(), &rows), None);
+    expect_eq!(rt; first_accepted(rt.alloc(), &rows), None);
 }
 
 /// Whether the run stops with this fault where one device fails once, and this was written before.

@@ -1,6 +1,7 @@
 //! What the words of the command line of `polcert_bound` ask for.
 use clap::error::ErrorKind;
 use polcert_terminal::bound_command::{BoundChoice, BoundFiles, choose_bound};
+use polcert_testing::expect_eq;
 use std::alloc::Global;
 
 /// Returns what is chosen, or the kind of fault with which the words are refused.
@@ -17,7 +18,7 @@ const NAMES: BoundFiles<'static> = BoundFiles {
 };
 
 /// Words, and what is chosen.
-const CHOICES: [(&[&str], Option<BoundChoice<'static>>); 12] = [
+const CHOICES: &[(&[&str], Option<BoundChoice<'static>>)] = &[
     (&[], None),
     (&["polcert_bound"], None),
     (&["polcert_bound", "check"], None),
@@ -61,8 +62,8 @@ const CHOICES: [(&[&str], Option<BoundChoice<'static>>); 12] = [
 
 #[test]
 fn chooses(rt: HostRuntime) {
-    for (words, choice) in CHOICES {
-        assert_eq!(rt; chosen(rt.alloc(), words), Ok(choice));
+    for &(words, choice) in CHOICES {
+        expect_eq!(rt; chosen(rt.alloc(), words), Ok(choice));
     }
 }
 
@@ -90,6 +91,6 @@ fn refuses(rt: HostRuntime) {
         ),
     ];
     for (words, kind) in rows {
-        assert_eq!(rt; chosen(rt.alloc(), words), Err(kind));
+        expect_eq!(rt; chosen(rt.alloc(), words), Err(kind));
     }
 }

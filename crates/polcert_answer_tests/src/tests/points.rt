@@ -5,7 +5,7 @@ use polcert_points_answer::{
     PointBoundVerdict, check_point_texts, run_point_check, status_of_point_verdict,
 };
 use polcert_policy::{PointFault, VectorFault};
-use polcert_testing::{Failing, Giver, Taker};
+use polcert_testing::{Failing, Giver, Taker, expect_eq};
 use polcert_text::{ReaderSource, TokenFault, WriterSink};
 use std::alloc::Global;
 
@@ -132,7 +132,7 @@ fn answered_yes(rt: HostRuntime) {
             b"yes: every policy, at most 1\n",
         ),
     ];
-    assert_eq!(rt; first_no(rt.alloc(), &rows), None);
+    expect_eq!(rt; first_no(rt.alloc(), &rows), None);
 }
 
 /// Texts, the verdict, and its line.
@@ -190,7 +190,7 @@ fn answered_no(rt: HostRuntime) {
             b"no: point 1, action 1, exceeded by 0.25\n",
         ),
     ];
-    assert_eq!(rt; first_not_exceeded(rt.alloc(), &rows), None);
+    expect_eq!(rt; first_not_exceeded(rt.alloc(), &rows), None);
 }
 
 /// Whether the texts are refused for this fault with status 2, in memory and by the run, and nothing is written.
@@ -238,7 +238,7 @@ fn refused_texts(rt: HostRuntime) {
         ),
         ((SEEN, b"0 1 0 5"), Fault::Points(PointFault::Truncated(7))),
     ];
-    assert_eq!(rt; first_accepted(rt.alloc(), &rows), None);
+    expect_eq!(rt; first_accepted(rt.alloc(), &rows), None);
 }
 
 /// Whether the run on a yes stops with this fault where one device fails once, and this was written before.

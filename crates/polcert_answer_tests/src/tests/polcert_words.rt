@@ -2,6 +2,7 @@
 use clap::error::ErrorKind;
 use polcert_terminal::command_line::FileNames;
 use polcert_terminal::polcert_command::{Choice, choose};
+use polcert_testing::expect_eq;
 use std::alloc::Global;
 
 /// What is chosen; or the kind of fault with which the words are refused.
@@ -19,7 +20,7 @@ const NAMES: FileNames<'static> = FileNames {
 };
 
 /// Words, and what is chosen.
-const CHOICES: [(&[&str], Option<Choice<'static>>); 23] = [
+const CHOICES: &[(&[&str], Option<Choice<'static>>)] = &[
     (&[], Some(Choice::Model(None))),
     (&["polcert"], Some(Choice::Model(None))),
     (&["polcert", "model", "F"], Some(Choice::Model(Some("F")))),
@@ -65,8 +66,8 @@ const CHOICES: [(&[&str], Option<Choice<'static>>); 23] = [
 
 #[test]
 fn chooses(rt: HostRuntime) {
-    for (words, choice) in CHOICES {
-        assert_eq!(rt; chosen(rt.alloc(), words), Ok(choice));
+    for &(words, choice) in CHOICES {
+        expect_eq!(rt; chosen(rt.alloc(), words), Ok(choice));
     }
 }
 
@@ -104,6 +105,6 @@ fn refuses(rt: HostRuntime) {
         (&["polcert", "raise", "--help"], ErrorKind::DisplayHelp),
     ];
     for (words, kind) in rows {
-        assert_eq!(rt; chosen(rt.alloc(), words), Err(kind));
+        expect_eq!(rt; chosen(rt.alloc(), words), Err(kind));
     }
 }

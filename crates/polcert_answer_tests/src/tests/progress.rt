@@ -1,7 +1,7 @@
 //! What a run notifies its progress of.
 use polcert_answer::{Outcome, Task, run_task, status_of_outcome};
 use polcert_check::{AboveVerdict, Progress, Verdict};
-use polcert_testing::TIGER;
+use polcert_testing::{TIGER, expect_eq};
 use polcert_text::{SliceSink, SliceSource};
 use std::alloc::Global;
 
@@ -78,7 +78,7 @@ fn calls_of(alloc: Global, task: Task, vectors: &[u8]) -> Option<(Outcome, Calls
 
 /// A task, vectors, its outcome, the exit status, the states that are done at the first node of each action, and the nodes that are done.
 /// A constant is a millionth over one minus the discount. A no ends the walk at its node, while lowering and raising go over all nodes.
-const ROWS: [(Task, &[u8], Outcome, u8, usize, usize); 9] = [
+const ROWS: &[(Task, &[u8], Outcome, u8, usize, usize)] = &[
     (
         Task::Check,
         VALUES,
@@ -139,7 +139,7 @@ const ROWS: [(Task, &[u8], Outcome, u8, usize, usize); 9] = [
 
 #[test]
 fn each_share_is_told_once(rt: HostRuntime) {
-    for (task, vectors, outcome, status, states_done, node_done) in ROWS {
+    for &(task, vectors, outcome, status, states_done, node_done) in ROWS {
         let calls = Calls {
             begin: 1,
             nodes: 3,
@@ -148,7 +148,7 @@ fn each_share_is_told_once(rt: HostRuntime) {
             node_done,
             end: 1,
         };
-        assert_eq!(rt; calls_of(rt.alloc(), task, vectors), Some((outcome, calls)));
-        assert_eq!(rt; status_of_outcome(outcome), status);
+        expect_eq!(rt; calls_of(rt.alloc(), task, vectors), Some((outcome, calls)));
+        expect_eq!(rt; status_of_outcome(outcome), status);
     }
 }

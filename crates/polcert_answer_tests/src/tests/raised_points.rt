@@ -5,7 +5,7 @@ use polcert_answer::{Fault, RunFault, status_of};
 use polcert_check::RaiseFault;
 use polcert_points_answer::{PointBoundVerdict, check_point_texts, run_point_raise};
 use polcert_policy::{PointFault, VectorFault};
-use polcert_testing::{Failing, Giver, Taker};
+use polcert_testing::{Failing, Giver, Taker, expect_eq};
 use polcert_text::{ReaderSource, WriterSink};
 use std::alloc::Global;
 
@@ -108,7 +108,7 @@ fn raises(rt: HostRuntime) {
             b"0 0.5 0.5\n5 -\n",
         ),
     ];
-    assert_eq!(rt; first_not_raised(rt.alloc(), &rows), None);
+    expect_eq!(rt; first_not_raised(rt.alloc(), &rows), None);
 }
 
 /// The first row of vectors and points that is not answered yes.
@@ -131,7 +131,7 @@ fn raised_points_pass(rt: HostRuntime) {
         (SEEN, b"0 0 1\n1.5 0\n2 0\n"),
         (b"0\n2 1.5\n\n1\n1.5 2.5\n\n", b"0 0.5 0.5\n1.5 -\n1.5 -\n"),
     ];
-    assert_eq!(rt; first_no(rt.alloc(), &rows), None);
+    expect_eq!(rt; first_no(rt.alloc(), &rows), None);
 }
 
 /// A model, vectors and points, the fault, and the exit status.
@@ -162,7 +162,7 @@ fn not_raised(rt: HostRuntime) {
         (GREAT_GAIN, (b"0 0", b""), out_of_range, 1),
         (COIN, (SEEN, b"0 0 1 10000000 0 1.5 0"), out_of_range, 1),
     ];
-    assert_eq!(rt; first_raised(rt.alloc(), &rows), None);
+    expect_eq!(rt; first_raised(rt.alloc(), &rows), None);
 }
 
 #[test]
@@ -173,7 +173,7 @@ fn refused_texts(rt: HostRuntime) {
         (COIN, (b"0 2 1", b"x"), cut, 2),
         (COIN, (SEEN, b"1 1 0"), order, 2),
     ];
-    assert_eq!(rt; first_raised(rt.alloc(), &rows), None);
+    expect_eq!(rt; first_raised(rt.alloc(), &rows), None);
 }
 
 /// Whether the run stops with this fault where one device fails once, and this was written before.

@@ -2,6 +2,7 @@
 use super::fake_terminal::FakeTerminal;
 use polcert_check::Progress;
 use polcert_terminal::{CheckProgress, InputText, WatchedSource};
+use polcert_testing::expect_eq;
 use polcert_text::{ReaderSource, Source};
 use std::alloc::Global;
 use std::string::String;
@@ -31,7 +32,7 @@ fn says_how_far_a_long_check_is(rt: HostRuntime) -> Result<(), Fail> {
     let wanted = format!(in rt.alloc();
         "{BLANK}5 of 9 nodes{BLANK}6 of 9 nodes{BLANK}7 of 9 nodes{BLANK}"
     )?;
-    assert_eq!(rt; line.as_str(), wanted.as_str());
+    expect_eq!(rt; line.as_str(), wanted.as_str());
     Ok(())
 }
 
@@ -41,16 +42,16 @@ fn says_how_far_a_long_node_is(rt: HostRuntime) -> Result<(), Fail> {
     let wanted = format!(in rt.alloc();
         "{BLANK}0 of 9 nodes, 5 of 5 states{BLANK}1 of 9 nodes{BLANK}"
     )?;
-    assert_eq!(rt; line.as_str(), wanted.as_str());
+    expect_eq!(rt; line.as_str(), wanted.as_str());
     Ok(())
 }
 
 #[test]
 fn says_nothing_of_a_short_check_or_to_no_terminal(rt: HostRuntime) -> Result<(), Fail> {
     let short = said(rt.alloc(), true, 2, 2);
-    assert_eq!(rt; short.as_str(), "");
+    expect_eq!(rt; short.as_str(), "");
     let unseen = said(rt.alloc(), false, 5, 9);
-    assert_eq!(rt; unseen.as_str(), "");
+    expect_eq!(rt; unseen.as_str(), "");
     Ok(())
 }
 
@@ -70,10 +71,10 @@ fn written(alloc: Global, is_terminal: bool, reads: usize) -> String {
 fn shows_a_long_reading_up_to_the_end(rt: HostRuntime) -> Result<(), Fail> {
     let line = written(rt.alloc(), true, 6);
     let wanted = format!(in rt.alloc(); "{BLANK}graph: 50 bytes read{BLANK}graph: 60 bytes read")?;
-    assert_eq!(rt; line.as_str(), wanted.as_str());
+    expect_eq!(rt; line.as_str(), wanted.as_str());
     let ended = written(rt.alloc(), true, 8);
     let wanted = format!(in rt.alloc(); "{wanted}{BLANK}graph: 70 bytes read{BLANK}")?;
-    assert_eq!(rt; ended.as_str(), wanted.as_str());
+    expect_eq!(rt; ended.as_str(), wanted.as_str());
     Ok(())
 }
 
@@ -89,16 +90,16 @@ fn counts_bytes_that_come_one_by_one(rt: HostRuntime) -> Result<(), Fail> {
     let wanted = format!(in rt.alloc();
         "{BLANK}graph: 5 bytes read{BLANK}graph: 6 bytes read{BLANK}graph: 7 bytes read"
     )?;
-    assert_eq!(rt; line.as_str(), wanted.as_str());
+    expect_eq!(rt; line.as_str(), wanted.as_str());
     Ok(())
 }
 
 #[test]
 fn shows_no_short_reading_and_nothing_to_a_file(rt: HostRuntime) {
     let short = written(rt.alloc(), true, 4);
-    assert_eq!(rt; short.as_str(), "");
+    expect_eq!(rt; short.as_str(), "");
     let unseen = written(rt.alloc(), false, 8);
-    assert_eq!(rt; unseen.as_str(), "");
+    expect_eq!(rt; unseen.as_str(), "");
 }
 
 #[test]
@@ -112,12 +113,12 @@ fn blanks_the_line_of_a_text_that_is_refused(rt: HostRuntime) -> Result<(), Fail
     }
     let shown = terminal.take_written();
     let wanted = format!(in rt.alloc(); "{BLANK}vectors: 50 bytes read")?;
-    assert_eq!(rt; shown.as_str(), wanted.as_str());
+    expect_eq!(rt; shown.as_str(), wanted.as_str());
     source.clear_progress();
     let blank = terminal.take_written();
-    assert_eq!(rt; blank.as_str(), BLANK);
+    expect_eq!(rt; blank.as_str(), BLANK);
     source.clear_progress();
     let again = terminal.take_written();
-    assert_eq!(rt; again.as_str(), "");
+    expect_eq!(rt; again.as_str(), "");
     Ok(())
 }

@@ -4,7 +4,7 @@ use super::runs::{Answer, Devices, Run, SOUND, Texts, gives_the_same, over_devic
 use polcert_answer::RunFault;
 use polcert_check::Verdict;
 use polcert_model::ItemFault;
-use polcert_testing::TIGER;
+use polcert_testing::{TIGER, expect_eq};
 use polcert_text::TokenFault;
 use std::alloc::Global;
 
@@ -66,12 +66,11 @@ fn first_wrong_run(
 #[test]
 fn the_same_in_any_pieces(rt: HostRuntime) {
     for most in [1usize, 2, 3, 399, 400, 401, 4095, 4096, 4097] {
-        assert!(rt; is_printed(rt.alloc(), most), "pieces of {most}");
-        assert_eq!(rt;
+        expect_eq!(rt; is_printed(rt.alloc(), most), true, most);
+        expect_eq!(rt;
             first_wrong_run(rt.alloc(), most, &RUNS),
             None,
-            "pieces of {most}"
-        );
+            most);
     }
 }
 
@@ -112,5 +111,5 @@ fn refused_before_the_source_fails(rt: HostRuntime) {
         (tiger, RunFault::ReadModel),
         (TEN, RunFault::ReadModel),
     ];
-    assert_eq!(rt; first_wrong_failure(rt.alloc(), &rows), None);
+    expect_eq!(rt; first_wrong_failure(rt.alloc(), &rows), None);
 }

@@ -10,7 +10,7 @@ use polcert_check::{AboveVerdict, Verdict};
 use polcert_model::{ItemFault, ModelFault};
 use polcert_policy::{GraphFault, VectorFault};
 use polcert_testing::{
-    COST, Endless, FIRST, FIRST_FORM, Failing, MDP, TIGER, Taker, refused_models,
+    COST, Endless, FIRST, FIRST_FORM, Failing, MDP, TIGER, Taker, expect_eq, refused_models,
 };
 use polcert_text::{ReaderSource, SliceSource, Source, TokenFault, WriterSink};
 use std::alloc::Global;
@@ -191,13 +191,12 @@ fn first_not_read_once(alloc: Global, trials: &[Trial], text: Text) -> Option<us
 /// Each byte is read once, and after the last of each text a read finds the end. Each byte of the answer is written once.
 #[test]
 fn each_byte_is_read_and_written_once(rt: HostRuntime) {
-    assert_eq!(rt; first_not_written_once(rt.alloc(), &written()), None);
+    expect_eq!(rt; first_not_written_once(rt.alloc(), &written()), None);
     for text in TEXTS {
-        assert_eq!(rt;
+        expect_eq!(rt;
             first_not_read_once(rt.alloc(), &written(), text),
             None,
-            "{text:?}"
-        );
+            text);
     }
 }
 
@@ -234,11 +233,10 @@ fn first_unnamed(alloc: Global, trials: &[Trial], text: Text) -> Option<(usize, 
 #[test]
 fn each_read_fails(rt: HostRuntime) {
     for text in TEXTS {
-        assert_eq!(rt;
+        expect_eq!(rt;
             first_unnamed(rt.alloc(), &written(), text),
             None,
-            "{text:?}"
-        );
+            text);
     }
 }
 
@@ -274,7 +272,7 @@ fn first_that_continues(alloc: Global, trials: &[Trial]) -> Option<usize> {
 /// The first read of a model fails, and no other text is read; nor are vectors after a graph that fails.
 #[test]
 fn nothing_is_read_after_a_failed_source(rt: HostRuntime) {
-    assert_eq!(rt; first_that_continues(rt.alloc(), &written()), None);
+    expect_eq!(rt; first_that_continues(rt.alloc(), &written()), None);
 }
 
 /// Whether a sink that fails so after this text is named, and not asked again.
@@ -314,7 +312,7 @@ fn first_cut_off_wrongly(alloc: Global, trials: &[Trial]) -> Option<(usize, Fail
 /// A write that fails, or that takes nothing, is not tried again. What was taken is a beginning of the answer.
 #[test]
 fn each_write_fails(rt: HostRuntime) {
-    assert_eq!(rt; first_cut_off_wrongly(rt.alloc(), &written()), None);
+    expect_eq!(rt; first_cut_off_wrongly(rt.alloc(), &written()), None);
 }
 
 /// Whether the run stops with this fault after one failure, and nothing is written.
@@ -387,7 +385,7 @@ fn first_unnamed_device(
 /// Of several devices that fail the first is named, in the order of the run.
 #[test]
 fn the_first_device_that_fails_is_named(rt: HostRuntime) {
-    assert_eq!(rt;
+    expect_eq!(rt;
         first_unnamed_device(rt.alloc(), &FAILING, &written()),
         None
     );
@@ -537,15 +535,15 @@ fn first_wrong_in_print(
 
 #[test]
 fn refused_or_failed(rt: HostRuntime) {
-    assert_eq!(rt;
+    expect_eq!(rt;
         first_wrong_in_a_check(rt.alloc(), &refused_rows(), &READS_OF_REFUSED),
         None
     );
-    assert_eq!(rt;
+    expect_eq!(rt;
         first_wrong_in_print(rt.alloc(), &refused_models(), &READS_OF_MODELS),
         None
     );
-    assert_eq!(rt;
+    expect_eq!(rt;
         first_wrong_in_print(rt.alloc(), &AT_MARKS, &READS_AT_MARKS),
         None
     );
@@ -607,7 +605,7 @@ fn first_wrong_cut(
 /// What a run answers to a text that is cut is what it answers to its slice, whatever the pieces in which it comes.
 #[test]
 fn cut_anywhere(rt: HostRuntime) {
-    assert_eq!(rt; first_wrong_cut(rt.alloc(), &CUT), None);
+    expect_eq!(rt; first_wrong_cut(rt.alloc(), &CUT), None);
 }
 
 /// Whether the answer to slices is that of the run over them.
@@ -690,7 +688,7 @@ fn refuses_endless_vectors(alloc: Global, run: Run) -> bool {
 #[test]
 fn endless_models(rt: HostRuntime) {
     for run in RUNS {
-        assert!(rt; refuses_endless_model(rt.alloc(), run), "{run:?}");
+        expect_eq!(rt; refuses_endless_model(rt.alloc(), run), true, run);
     }
 }
 

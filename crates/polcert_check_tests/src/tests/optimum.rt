@@ -4,7 +4,7 @@
 use polcert_model::{Model, read_model};
 use polcert_optimum::{InformedVerdict, check_informed, fit_actions};
 use polcert_policy::{Vectors, read_action_vectors};
-use polcert_testing::TIGER;
+use polcert_testing::{TIGER, expect_eq};
 use std::alloc::Global;
 
 mod points;
@@ -100,7 +100,7 @@ fn tiger(rt: HostRuntime) {
             exceeded(1, 1, MILLIONTH / 20),
         ),
     ] {
-        assert_eq!(rt; verdict_of(rt.alloc(), TIGER, vectors), Some(want));
+        expect_eq!(rt; verdict_of(rt.alloc(), TIGER, vectors), Some(want));
     }
 }
 
@@ -117,7 +117,7 @@ fn seen_states(rt: HostRuntime) {
         (b"0 2 2 1 2 3.999999", exceeded(1, 1, MILLIONTH)),
         (b"0 1 1.999999 1 2 4", exceeded(0, 0, 1_000_000 * MILLIONTH)),
     ] {
-        assert_eq!(rt; verdict_of(rt.alloc(), MOVES, vectors), Some(want));
+        expect_eq!(rt; verdict_of(rt.alloc(), MOVES, vectors), Some(want));
     }
 }
 
@@ -131,5 +131,5 @@ fn vectors_of_other_counts(rt: HostRuntime) {
         (Ok(model), Ok(vectors)) => Some(fit_actions(&model, &vectors)),
         _ => None,
     };
-    assert_eq!(rt; fit, Some(false));
+    expect_eq!(rt; fit, Some(false));
 }

@@ -10,6 +10,7 @@ use polcert_policy::{
     Graph, GraphFault, VectorFault, Vectors, read_graph, read_vectors, read_vectors_up,
     write_vectors,
 };
+use polcert_testing::expect_eq;
 use polcert_text::{NumberFault, SliceSink, TokenFault};
 use std::alloc::{AllocError, Global};
 
@@ -146,7 +147,7 @@ const REFUSED_GRAPHS: &[(&[u8], GraphFault)] = &[
 #[test]
 fn refused_graphs(rt: HostRuntime) {
     for &(text, want) in REFUSED_GRAPHS {
-        assert_eq!(rt; graph_fault(rt.alloc(), text), Some(want));
+        expect_eq!(rt; graph_fault(rt.alloc(), text), Some(want));
     }
 }
 
@@ -162,7 +163,7 @@ const ACCEPTED_GRAPHS: &[&[u8]] = &[
 #[test]
 fn accepted_graphs(rt: HostRuntime) {
     for text in ACCEPTED_GRAPHS {
-        assert_eq!(rt; single_action_fault(rt.alloc(), text), None);
+        expect_eq!(rt; single_action_fault(rt.alloc(), text), None);
     }
 }
 
@@ -187,7 +188,7 @@ fn graph_readers(rt: HostRuntime) {
         (Some(2), [Some(None), Some(None)]),
         (Some(0), [Some(Some(0)), Some(Some(1))]),
     ];
-    assert_eq!(rt;
+    expect_eq!(rt;
         read_nodes(rt.alloc(), b"0 2 - X\n1 0 0 001 # end"),
         Some(([2, 3, 2], nodes))
     );
@@ -205,7 +206,7 @@ fn most_nodes(rt: HostRuntime) {
         (10_000, 88_890, None),
         (10_001, 88_900, Some(GraphFault::TooManyNodes(88_890))),
     ] {
-        assert_eq!(rt; fault_of_nodes(rt.alloc(), count), Some((len, fault)));
+        expect_eq!(rt; fault_of_nodes(rt.alloc(), count), Some((len, fault)));
     }
 }
 
@@ -243,7 +244,7 @@ const REFUSED_VECTORS: &[(&[u8], VectorFault)] = &[
 #[test]
 fn refused_vectors(rt: HostRuntime) {
     for &(text, want) in REFUSED_VECTORS {
-        assert_eq!(rt; read_down(rt.alloc(), text), Some(Err(want)));
+        expect_eq!(rt; read_down(rt.alloc(), text), Some(Err(want)));
     }
 }
 
@@ -273,7 +274,7 @@ const ACCEPTED_VECTORS: &[(&[u8], [i64; 2])] = &[
 #[test]
 fn accepted_vectors(rt: HostRuntime) {
     for &(text, want) in ACCEPTED_VECTORS {
-        assert_eq!(rt; read_down(rt.alloc(), text), Some(Ok(Some(want))));
+        expect_eq!(rt; read_down(rt.alloc(), text), Some(Ok(Some(want))));
     }
 }
 
@@ -306,10 +307,10 @@ const REFUSED_UP: &[(&[u8], VectorFault)] = &[
 #[test]
 fn vectors_rounded_up(rt: HostRuntime) {
     for &(text, want) in ROUNDED_UP {
-        assert_eq!(rt; read_up(rt.alloc(), text), Some(Ok(Some(want))));
+        expect_eq!(rt; read_up(rt.alloc(), text), Some(Ok(Some(want))));
     }
     for &(text, want) in REFUSED_UP {
-        assert_eq!(rt; read_up(rt.alloc(), text), Some(Err(want)));
+        expect_eq!(rt; read_up(rt.alloc(), text), Some(Err(want)));
     }
 }
 
@@ -336,7 +337,7 @@ const WRITTEN: &[(&[u8], &[u8])] = &[
 #[test]
 fn written_vectors(rt: HostRuntime) {
     for &(text, want) in WRITTEN {
-        assert_eq!(rt; writes(rt.alloc(), text, want), Some(true), "{text:?}");
+        expect_eq!(rt; writes(rt.alloc(), text, want), Some(true), text);
     }
 }
 
@@ -381,7 +382,7 @@ fn lowered_text(alloc: Global, text: &[u8]) -> Option<[[i64; 2]; 2]> {
 #[test]
 fn shifted_vectors(rt: HostRuntime) {
     let want = [[-20_000_000, 4_999_999], [-19_999_999, 5_000_000]];
-    assert_eq!(rt; lowered_text(rt.alloc(), b"0 -19.999999 5"), Some(want));
+    expect_eq!(rt; lowered_text(rt.alloc(), b"0 -19.999999 5"), Some(want));
 }
 
 /// Whether writing the vectors to a sink of five bytes fails after these.
@@ -395,5 +396,5 @@ fn fails_after(alloc: Global, text: &[u8], front: &[u8]) -> Option<bool> {
 
 #[test]
 fn full_sink(rt: HostRuntime) {
-    assert_eq!(rt; fails_after(rt.alloc(), b"0 -20 5", b"0\n-20"), Some(true));
+    expect_eq!(rt; fails_after(rt.alloc(), b"0 -20 5", b"0\n-20"), Some(true));
 }

@@ -3,7 +3,7 @@ use polcert_cells::Cells;
 use polcert_check::{LowerFault, Verdict, check, fits, least_constant, lowered, start_worth};
 use polcert_model::{DenseModel, Model, dense_of, read_model};
 use polcert_policy::{Graph, Vectors, read_graph, read_vectors};
-use polcert_testing::{NUMBERED_MDP, TIGER, TWO_STATES};
+use polcert_testing::{NUMBERED_MDP, TIGER, TWO_STATES, expect_eq};
 use std::alloc::{AllocError, Global};
 use std::test::Fail;
 
@@ -137,7 +137,7 @@ const ONE_WAY: &[u8] =
     b"discount: 0.5 values: reward states: 2 actions: 2 observations: 2 T: 0 1 0 1 0 T: 1 identity O: * 1 0 0 1";
 
 /// The texts of a model, a graph and vectors, and the verdict.
-const VERDICTS: [(&[u8], &[u8], &[u8], Verdict); 19] = [
+const VERDICTS: &[(&[u8], &[u8], &[u8], Verdict)] = &[
     (TIGER, b"0 0 0 0", b"0 -20 -20", Verdict::Yes),
     (
         TIGER,
@@ -272,14 +272,14 @@ const VERDICTS: [(&[u8], &[u8], &[u8], Verdict); 19] = [
 #[test]
 fn verdicts(rt: HostRuntime) {
     let alloc = rt.alloc();
-    for (model, graph, vectors, answer) in VERDICTS {
-        assert_eq!(rt; verdict(alloc, model, graph, vectors), Some(answer));
-        assert_eq!(rt; dense_verdict(alloc, model, graph, vectors), Some(answer));
+    for &(model, graph, vectors, answer) in VERDICTS {
+        expect_eq!(rt; verdict(alloc, model, graph, vectors), Some(answer));
+        expect_eq!(rt; dense_verdict(alloc, model, graph, vectors), Some(answer));
     }
 }
 
 /// The texts of a model, a graph and vectors, and the least constant.
-const LEAST_CONSTANTS: [(&[u8], &[u8], &[u8], Result<i64, LowerFault>); 7] = [
+const LEAST_CONSTANTS: &[(&[u8], &[u8], &[u8], Result<i64, LowerFault>)] = &[
     (TIGER, b"0 0 0 0", b"0 -19.999999 -19.999999", Ok(1)),
     (TIGER, b"0 0 0 0", b"0 -20 -20", Ok(0)),
     (NUMBERED_MDP, b"0 0 0 0", b"0 1.333334 0.666667", Ok(1)),
@@ -320,9 +320,9 @@ const LEAST_CONSTANTS: [(&[u8], &[u8], &[u8], Result<i64, LowerFault>); 7] = [
 #[test]
 fn least_constants(rt: HostRuntime) {
     let alloc = rt.alloc();
-    for (model, graph, vectors, answer) in LEAST_CONSTANTS {
-        assert_eq!(rt; constant(alloc, model, graph, vectors), Some(answer));
-        assert_eq!(rt; dense_constant(alloc, model, graph, vectors), Some(answer));
+    for &(model, graph, vectors, answer) in LEAST_CONSTANTS {
+        expect_eq!(rt; constant(alloc, model, graph, vectors), Some(answer));
+        expect_eq!(rt; dense_constant(alloc, model, graph, vectors), Some(answer));
     }
 }
 
@@ -373,7 +373,7 @@ fn lowered_vectors(rt: HostRuntime) {
         ),
     ];
     for (model, graph, vectors, answer) in rows {
-        assert_eq!(rt; lowering(alloc, model, graph, vectors), Some(answer));
+        expect_eq!(rt; lowering(alloc, model, graph, vectors), Some(answer));
     }
 }
 
@@ -428,8 +428,8 @@ fn a_large_amount_over_filled_tables(rt: HostRuntime) -> Result<(), Fail> {
     let graph = last_follows(alloc, 256)?;
     let vectors = high_and_low(alloc, 256)?;
     let answer = short_at_once(1_966_080_000_000_000_000_000_000_000_000_000_000);
-    assert_eq!(rt; verdict(alloc, FILLED, &graph, &vectors), answer);
-    assert_eq!(rt; dense_verdict(alloc, FILLED, &graph, &vectors), answer);
+    expect_eq!(rt; verdict(alloc, FILLED, &graph, &vectors), answer);
+    expect_eq!(rt; dense_verdict(alloc, FILLED, &graph, &vectors), answer);
     Ok(())
 }
 
@@ -440,7 +440,7 @@ fn the_largest_amount(rt: HostRuntime) -> Result<(), Fail> {
     let graph = last_follows(alloc, 2000)?;
     let vectors = high_and_low(alloc, 2500)?;
     let answer = short_at_once(150_000_000_000_000_000_000_000_000_000_000_000_000);
-    assert_eq!(rt; verdict(alloc, LARGEST, &graph, &vectors), answer);
+    expect_eq!(rt; verdict(alloc, LARGEST, &graph, &vectors), answer);
     Ok(())
 }
 
@@ -461,7 +461,7 @@ fn after_the_first_thousands(rt: HostRuntime) -> Result<(), Fail> {
     let answer = short_at_once(12_500_000_000_000_000_000_000_000_000_000);
     let to_the_last =
         b"discount: 1 values: reward states: 5000 actions: 1 observations: 1 T: 0 identity T: 0 : 0 : 0 0 T: 0 : 0 : 4999 1 O: 0 uniform";
-    assert_eq!(rt; verdict(alloc, to_the_last, b"0 0 0", &last_low), answer);
+    expect_eq!(rt; verdict(alloc, to_the_last, b"0 0 0", &last_low), answer);
     Ok(())
 }
 
@@ -473,7 +473,7 @@ fn the_last_of_two_thousand_observations(rt: HostRuntime) -> Result<(), Fail> {
     let answer = short_at_once(4_000_000_000_000_000_000_000_000_000);
     let last_pays =
         b"discount: 1 values: reward states: 2 actions: 1 observations: 2000 T: 0 identity O: 0 uniform R: 0 : * : * : 1999 -2000";
-    assert_eq!(rt; verdict(alloc, last_pays, &stays, b"0 0 0"), answer);
+    expect_eq!(rt; verdict(alloc, last_pays, &stays, b"0 0 0"), answer);
     Ok(())
 }
 
@@ -489,7 +489,7 @@ fn from_after_the_first_thousands(rt: HostRuntime) -> Result<(), Fail> {
     });
     let late_loss =
         b"discount: 1 values: reward states: 5000 actions: 1 observations: 1 T: 0 identity O: 0 uniform R: 0 : 4900 : * : * -1";
-    assert_eq!(rt; verdict(alloc, late_loss, b"0 0 0", &zeros), answer);
+    expect_eq!(rt; verdict(alloc, late_loss, b"0 0 0", &zeros), answer);
     Ok(())
 }
 
@@ -499,7 +499,7 @@ fn worth(alloc: Global, model: &[u8], graph: &[u8], vectors: &[u8]) -> Option<(u
 }
 
 /// The texts of a model, a graph and vectors; the best node from the start, and its worth there.
-const WORTHS: [(&[u8], &[u8], &[u8], (usize, i64)); 8] = [
+const WORTHS: &[(&[u8], &[u8], &[u8], (usize, i64))] = &[
     (TIGER, b"0 0 0 0", b"0 -20 -20", (0, -20_000_000)),
     (
         TIGER,
@@ -538,7 +538,7 @@ const WORTHS: [(&[u8], &[u8], &[u8], (usize, i64)); 8] = [
 #[test]
 fn worths_from_the_start(rt: HostRuntime) {
     let alloc = rt.alloc();
-    for (model, graph, vectors, answer) in WORTHS {
-        assert_eq!(rt; worth(alloc, model, graph, vectors), Some(answer));
+    for &(model, graph, vectors, answer) in WORTHS {
+        expect_eq!(rt; worth(alloc, model, graph, vectors), Some(answer));
     }
 }

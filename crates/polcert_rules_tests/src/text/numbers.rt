@@ -1,4 +1,5 @@
 //! The values of numerals.
+use polcert_testing::expect_eq;
 use polcert_text::{NumberFault, ceil_of, floor_of, scaled_of, whole_number};
 
 const VALUES: &[(bool, &[u8], i64)] = &[
@@ -21,7 +22,7 @@ const VALUES: &[(bool, &[u8], i64)] = &[
 #[test]
 fn exact_values(rt: HostRuntime) {
     for &(negative, numeral, want) in VALUES {
-        assert_eq!(rt; scaled_of(negative, numeral), Ok(want));
+        expect_eq!(rt; scaled_of(negative, numeral), Ok(want));
     }
 }
 
@@ -45,7 +46,7 @@ const FAULTS: &[(&[u8], NumberFault)] = &[
 fn exact_faults(rt: HostRuntime) {
     for &(numeral, fault) in FAULTS {
         for negative in [false, true] {
-            assert_eq!(rt; scaled_of(negative, numeral), Err(fault));
+            expect_eq!(rt; scaled_of(negative, numeral), Err(fault));
         }
     }
 }
@@ -67,7 +68,7 @@ const FLOORS: &[(bool, &[u8], Result<i64, NumberFault>)] = &[
 #[test]
 fn floors(rt: HostRuntime) {
     for &(negative, numeral, want) in FLOORS {
-        assert_eq!(rt; floor_of(negative, numeral), want);
+        expect_eq!(rt; floor_of(negative, numeral), want);
     }
 }
 
@@ -92,7 +93,7 @@ const CEILINGS: &[(bool, &[u8], Result<i64, NumberFault>)] = &[
 #[test]
 fn ceilings(rt: HostRuntime) {
     for &(negative, numeral, want) in CEILINGS {
-        assert_eq!(rt; ceil_of(negative, numeral), want);
+        expect_eq!(rt; ceil_of(negative, numeral), want);
     }
 }
 
@@ -101,7 +102,7 @@ fn ceilings(rt: HostRuntime) {
 fn longest_numerals(rt: HostRuntime) {
     let zeros = [b'0'; 401];
     for (numeral, want) in [(&zeros[..400], Ok(0)), (&zeros, Err(NumberFault::TooLong))] {
-        assert_eq!(rt; scaled_of(false, numeral), want);
+        expect_eq!(rt; scaled_of(false, numeral), want);
     }
 }
 
@@ -118,6 +119,6 @@ const WHOLE: &[(&[u8], Option<usize>)] = &[
 #[test]
 fn whole_numbers(rt: HostRuntime) {
     for &(digits, want) in WHOLE {
-        assert_eq!(rt; whole_number(1001, digits), want);
+        expect_eq!(rt; whole_number(1001, digits), want);
     }
 }

@@ -1,5 +1,5 @@
 //! Sources that give a text in pieces, fail or never end.
-use polcert_testing::{Endless, Giver};
+use polcert_testing::{Endless, Giver, expect_eq};
 use polcert_text::{ReadFault, ReaderSource, SliceSource, Source, SourceFailed, read_all};
 use std::alloc::Global;
 
@@ -21,7 +21,7 @@ fn read_in_pieces(alloc: Global, text: &[u8], most: usize) -> (bool, u64, u64) {
 #[test]
 fn reads_in_pieces(rt: HostRuntime) {
     for (most, reads) in [(1usize, 12u64), (2, 7), (4, 4), (100, 2)] {
-        assert_eq!(rt;
+        expect_eq!(rt;
             read_in_pieces(rt.alloc(), b"discount: 1", most),
             (true, 0, reads)
         );
@@ -36,7 +36,7 @@ fn fails_at_each_read(rt: HostRuntime) {
         let mut source = ReaderSource::new(Giver::new(b"discount: 1", 1, Some(failing)));
         let fault = read_all(rt.alloc(), &mut source, 100).err();
         let found = (fault, source.failures(), source.reader.reads);
-        assert_eq!(rt; found, (Some(ReadFault::Device), 1, failing + 1));
+        expect_eq!(rt; found, (Some(ReadFault::Device), 1, failing + 1));
     }
 }
 
@@ -50,7 +50,7 @@ fn read_endless(alloc: Global) -> Option<(usize, u64)> {
 /// A read has room for 4,096 bytes, and the third for as many as lead one past the limit.
 #[test]
 fn stops_past_the_limit(rt: HostRuntime) {
-    assert_eq!(rt; read_endless(rt.alloc()), Some((10_001, 3)));
+    expect_eq!(rt; read_endless(rt.alloc()), Some((10_001, 3)));
     for (text, front) in [(b"abc".as_slice(), b"abc".as_slice()), (b"abcde", b"abcd")] {
         let read = read_all(rt.alloc(), &mut SliceSource::new(text), 3);
         assert!(rt; are(read, front));
@@ -72,7 +72,7 @@ fn one_read_for_one_read(rt: HostRuntime) {
     let mut slice = SliceSource::new(b"abc");
     let mut piece = [b'.'; 6];
     for count in [3, 0] {
-        assert_eq!(rt; (slice.read(&mut piece), piece), (Ok(count), *b"abc..."));
+        expect_eq!(rt; (slice.read(&mut piece), piece), (Ok(count), *b"abc..."));
     }
     let mut source = ReaderSource::new(Giver::new(b"abc", 2, Some(1)));
     let mut piece = [b'.'; 6];
@@ -83,7 +83,7 @@ fn one_read_for_one_read(rt: HostRuntime) {
         (Ok(0), *b"cb....", 1, 4),
         (Ok(0), *b"cb....", 1, 5),
     ] {
-        assert_eq!(rt; read_once(&mut source, &mut piece), found);
+        expect_eq!(rt; read_once(&mut source, &mut piece), found);
     }
 }
 
@@ -91,5 +91,5 @@ fn one_read_for_one_read(rt: HostRuntime) {
 fn reads_a_reader_of_std(rt: HostRuntime) {
     let mut source = ReaderSource::new(b"a text".as_slice());
     let is_read = are(read_all(rt.alloc(), &mut source, 100), b"a text");
-    assert_eq!(rt; (is_read, source.failures()), (true, 0));
+    expect_eq!(rt; (is_read, source.failures()), (true, 0));
 }

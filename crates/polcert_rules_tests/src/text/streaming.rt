@@ -1,5 +1,5 @@
 //! The tokens of sources that give a text in pieces, fail or never end.
-use polcert_testing::{Endless, Pieces};
+use polcert_testing::{Endless, Pieces, expect_eq};
 use polcert_text::{
     ReaderSource, Source, StreamFault, StreamTokens, TEXT_LIMIT, TokenFault, TokenKind,
 };
@@ -65,7 +65,7 @@ fn assert_tokens(
     end: Option<StreamFault>,
     reads: u64,
 ) {
-    assert_eq!(rt;
+    expect_eq!(rt;
         cut(source, TEXT_LIMIT, tokens),
         (None, [Ok(end); 3], [reads; 2])
     );
@@ -142,7 +142,7 @@ fn a_failed_read_is_no_end(rt: HostRuntime) {
         let mut source = Pieces::new(b"ab 12", most, true);
         let name = (TokenKind::Name, 0, b"ab".as_slice());
         assert_tokens(&rt, &mut source, &[name], failed, reads);
-        assert_eq!(rt; source.failures, 1);
+        expect_eq!(rt; source.failures, 1);
     }
 }
 
@@ -161,10 +161,10 @@ fn reads_no_further_than_it_must(rt: HostRuntime) {
         glued,
         12,
     );
-    assert_eq!(rt; source.failures, 0);
+    expect_eq!(rt; source.failures, 0);
 }
 
-const MARKS: [(&[u8], TokenKind); 4] = [
+const MARKS: &[(&[u8], TokenKind)] = &[
     (b":", TokenKind::Colon),
     (b"*", TokenKind::Star),
     (b"+", TokenKind::Plus),
@@ -185,8 +185,8 @@ fn is_given_with_its_byte(text: &[u8], kind: TokenKind) -> bool {
 /// Nothing prolongs a mark: it is given with its byte, and the read after it, which fails, comes with the next call.
 #[test]
 fn a_mark_is_given_with_its_byte(rt: HostRuntime) {
-    for (text, kind) in MARKS {
-        assert!(rt; is_given_with_its_byte(text, kind), "{kind:?}");
+    for &(text, kind) in MARKS {
+        expect_eq!(rt; is_given_with_its_byte(text, kind), true, kind);
     }
 }
 
@@ -264,7 +264,7 @@ fn a_source_that_never_ends(rt: HostRuntime) {
         (b'1', TokenFault::TokenTooLong(0), 1),
     ] {
         let end = Ok(Some(StreamFault::Token(fault)));
-        assert_eq!(rt; ends_of_endless(byte), ([end; 2], reads));
+        expect_eq!(rt; ends_of_endless(byte), ([end; 2], reads));
     }
 }
 
@@ -277,6 +277,6 @@ fn a_token_ends_at_the_limit(rt: HostRuntime) {
             3,
             &[(TokenKind::Name, 0, b"abc")],
         );
-        assert_eq!(rt; found, (None, [Ok(end); 3], [reads; 2]));
+        expect_eq!(rt; found, (None, [Ok(end); 3], [reads; 2]));
     }
 }

@@ -1,4 +1,5 @@
 //! The cuts of small texts.
+use polcert_testing::expect_eq;
 use polcert_text::{TEXT_LIMIT, TokenFault, TokenKind, Tokens};
 use std::process::Abort;
 
@@ -37,9 +38,9 @@ fn assert_cut(
     end: Option<TokenFault>,
 ) {
     let mut found = Tokens::new(text, limit);
-    assert_eq!(rt; first_wrong(&mut found, tokens), None);
+    expect_eq!(rt; first_wrong(&mut found, tokens), None);
     for _ in 0..3 {
-        assert_eq!(rt; next_end(&mut found), Ok(end));
+        expect_eq!(rt; next_end(&mut found), Ok(end));
     }
 }
 
@@ -183,11 +184,11 @@ fn bytes_beyond_ascii(rt: HostRuntime) {
 
 #[test]
 fn ends(rt: HostRuntime) {
-    assert_eq!(rt; Tokens::new(b"ab cd", 5).end(), 5);
-    assert_eq!(rt; Tokens::new(b"ab cd", 2).end(), 2);
+    expect_eq!(rt; Tokens::new(b"ab cd", 5).end(), 5);
+    expect_eq!(rt; Tokens::new(b"ab cd", 2).end(), 2);
     let mut tokens = Tokens::new(b"ab ", 5);
     let _ = tokens.next_token();
     let _ = tokens.next_token();
-    assert_eq!(rt; tokens.end(), 3);
-    assert_eq!(rt; TokenFault::Glued(7).place(), 7);
+    expect_eq!(rt; tokens.end(), 3);
+    expect_eq!(rt; TokenFault::Glued(7).place(), 7);
 }

@@ -1,5 +1,5 @@
 //! Sinks that take a byte at a time, fail or take nothing.
-use polcert_testing::{Failing, Taker};
+use polcert_testing::{Failing, Taker, expect_eq};
 use polcert_text::{BUFFER_SIZE, BufferedSink, Sink, SinkFailed, SliceSink, WriterSink, write_all};
 use std::alloc::Global;
 use std::test::Fail;
@@ -25,10 +25,10 @@ fn fails_at_each_write(rt: HostRuntime) {
     for failing in 0..17usize {
         let number = failing as u64;
         let found = write_through(rt.alloc(), Failing::Fails(number), text, &text[..failing]);
-        assert_eq!(rt; found, (Err(SinkFailed), true, 1, number + 1));
+        expect_eq!(rt; found, (Err(SinkFailed), true, 1, number + 1));
     }
     let found = write_through(rt.alloc(), Failing::Never, text, text);
-    assert_eq!(rt; found, (Ok(()), true, 0, 17));
+    expect_eq!(rt; found, (Ok(()), true, 0, 17));
 }
 
 #[test]
@@ -40,20 +40,20 @@ fn a_full_slice_fails(rt: HostRuntime) {
         (b"cde", Err(SinkFailed), 1),
         (b"", Ok(()), 1),
     ] {
-        assert_eq!(rt;
+        expect_eq!(rt;
             (write_all(&mut sink, text), sink.failures()),
             (answer, failures)
         );
     }
-    assert_eq!(rt; sink.written(), b"abcd".as_slice());
+    expect_eq!(rt; sink.written(), b"abcd".as_slice());
 }
 
 #[test]
 fn writes_to_a_writer_of_std(rt: HostRuntime) -> Result<(), Fail> {
     let mut sink = WriterSink::new(Vec::new(rt.alloc()));
     write_all(&mut sink, b"a line")?;
-    assert_eq!(rt; sink.writer.as_slice(), b"a line".as_slice());
-    assert_eq!(rt; sink.failures(), 0);
+    expect_eq!(rt; sink.writer.as_slice(), b"a line".as_slice());
+    expect_eq!(rt; sink.failures(), 0);
 
     Ok(())
 }
@@ -73,7 +73,7 @@ fn a_write_of_nothing_fails(rt: HostRuntime) {
         (b"", (Ok(()), 1, 1)),
         (b"b", (Ok(()), 1, 2)),
     ] {
-        assert_eq!(rt; write_on(&mut sink, text), found);
+        expect_eq!(rt; write_on(&mut sink, text), found);
     }
 }
 
@@ -87,15 +87,15 @@ fn write_once(sink: &mut WriterSink<Taker>, piece: &[u8]) -> (Result<usize, Sink
 #[test]
 fn one_write_for_one_write(rt: HostRuntime) {
     let mut sink = WriterSink::new(Taker::new(rt.alloc(), Failing::TakesNothing(0)));
-    assert_eq!(rt; write_once(&mut sink, b""), (Ok(0), 0, 1));
+    expect_eq!(rt; write_once(&mut sink, b""), (Ok(0), 0, 1));
     let mut sink = WriterSink::new(Taker::new(rt.alloc(), Failing::Fails(1)));
     for (piece, found) in [
         (b"ab".as_slice(), (Ok(1), 0, 1)),
         (b"b", (Err(SinkFailed), 1, 2)),
     ] {
-        assert_eq!(rt; write_once(&mut sink, piece), found);
+        expect_eq!(rt; write_once(&mut sink, piece), found);
     }
-    assert_eq!(rt; sink.writer.taken.as_slice(), b"a".as_slice());
+    expect_eq!(rt; sink.writer.taken.as_slice(), b"a".as_slice());
 }
 
 /// Takes pieces whole, notes how long the first four were, and counts its writes. The write of number `failing`, from 0 on,
@@ -152,13 +152,13 @@ fn write_ten_thousand(sink: &mut Pieces) -> Result<(), SinkFailed> {
 #[test]
 fn a_buffer_writes_whole_pieces(rt: HostRuntime) {
     let mut sink = Pieces::new(4);
-    assert_eq!(rt; write_ten_thousand(&mut sink), Ok(()));
-    assert_eq!(rt; sink.lens, [BUFFER_SIZE, BUFFER_SIZE, 1808, 0]);
-    assert_eq!(rt; (sink.failures, sink.writes), (0, 3));
+    expect_eq!(rt; write_ten_thousand(&mut sink), Ok(()));
+    expect_eq!(rt; sink.lens, [BUFFER_SIZE, BUFFER_SIZE, 1808, 0]);
+    expect_eq!(rt; (sink.failures, sink.writes), (0, 3));
     for failing in 0..3usize {
         let mut sink = Pieces::new(failing);
-        assert_eq!(rt; write_ten_thousand(&mut sink), Err(SinkFailed));
-        assert_eq!(rt; (sink.failures, sink.writes), (1, failing + 1));
+        expect_eq!(rt; write_ten_thousand(&mut sink), Err(SinkFailed));
+        expect_eq!(rt; (sink.failures, sink.writes), (1, failing + 1));
     }
 }
 
@@ -204,7 +204,7 @@ fn a_buffer_holds_back(rt: HostRuntime) {
     let mut sink = SliceSink::new(&mut room);
     let mut buffered = BufferedSink::new(&mut sink);
     for (bytes, held, found) in calls {
-        assert_eq!(rt; call_buffer(&mut buffered, bytes, held), found);
+        expect_eq!(rt; call_buffer(&mut buffered, bytes, held), found);
     }
-    assert_eq!(rt; &room[..6], b"a line".as_slice());
+    expect_eq!(rt; &room[..6], b"a line".as_slice());
 }

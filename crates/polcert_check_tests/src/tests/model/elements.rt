@@ -1,6 +1,7 @@
 //! The lines that name elements, or count them.
 use super::numbers::{Number, first_wrong, refusal, refusal_in_memory};
 use polcert_model::{ItemFault, ModelFault};
+use polcert_testing::expect_eq;
 use std::alloc::Global;
 use std::test::Fail;
 
@@ -12,31 +13,33 @@ fn refused(kind: ItemFault, place: u64) -> Option<ModelFault> {
     })
 }
 
+const REFUSED_TOKENS: &[(&[u8], ItemFault, u64)] = &[
+    (b"states a", ItemFault::BadShape, 7),
+    (b"states: 0", ItemFault::BadCount, 8),
+    (b"states: 10001", ItemFault::BadCount, 8),
+    (b"actions: 1001", ItemFault::BadCount, 9),
+    (b"observations: 10001", ItemFault::BadCount, 14),
+    (b"states: 2.5", ItemFault::BadCount, 8),
+    (b"states: 2 a", ItemFault::BadShape, 10),
+    (b"states: 2 reset", ItemFault::Reset, 10),
+    (b"states: +2", ItemFault::BadShape, 8),
+    (b"states: *", ItemFault::BadShape, 8),
+    (b"states: reset", ItemFault::Reset, 8),
+    (b"states: uniform", ItemFault::BadShape, 8),
+    (b"states: a a", ItemFault::DuplicateName, 10),
+    (b"states: a b a", ItemFault::DuplicateName, 12),
+    (b"states: a 2.5", ItemFault::BadShape, 10),
+    (b"states: a reset", ItemFault::Reset, 10),
+    (b"states: a uniform", ItemFault::BadShape, 10),
+    (b"states: a :", ItemFault::BadShape, 10),
+    (b"states", ItemFault::BadShape, 6),
+    (b"states:", ItemFault::BadCount, 7),
+];
+
 #[test]
 fn refused_tokens(rt: HostRuntime) {
-    for (text, kind, place) in [
-        (b"states a".as_slice(), ItemFault::BadShape, 7),
-        (b"states: 0".as_slice(), ItemFault::BadCount, 8),
-        (b"states: 10001".as_slice(), ItemFault::BadCount, 8),
-        (b"actions: 1001".as_slice(), ItemFault::BadCount, 9),
-        (b"observations: 10001".as_slice(), ItemFault::BadCount, 14),
-        (b"states: 2.5".as_slice(), ItemFault::BadCount, 8),
-        (b"states: 2 a".as_slice(), ItemFault::BadShape, 10),
-        (b"states: 2 reset".as_slice(), ItemFault::Reset, 10),
-        (b"states: +2".as_slice(), ItemFault::BadShape, 8),
-        (b"states: *".as_slice(), ItemFault::BadShape, 8),
-        (b"states: reset".as_slice(), ItemFault::Reset, 8),
-        (b"states: uniform".as_slice(), ItemFault::BadShape, 8),
-        (b"states: a a".as_slice(), ItemFault::DuplicateName, 10),
-        (b"states: a b a".as_slice(), ItemFault::DuplicateName, 12),
-        (b"states: a 2.5".as_slice(), ItemFault::BadShape, 10),
-        (b"states: a reset".as_slice(), ItemFault::Reset, 10),
-        (b"states: a uniform".as_slice(), ItemFault::BadShape, 10),
-        (b"states: a :".as_slice(), ItemFault::BadShape, 10),
-        (b"states".as_slice(), ItemFault::BadShape, 6),
-        (b"states:".as_slice(), ItemFault::BadCount, 7),
-    ] {
-        assert_eq!(rt; refusal(rt.alloc(), text), refused(kind, place));
+    for &(text, kind, place) in REFUSED_TOKENS {
+        expect_eq!(rt; refusal(rt.alloc(), text), refused(kind, place));
     }
 }
 
@@ -60,7 +63,7 @@ fn counts(rt: HostRuntime) {
             3,
         ),
     ] {
-        assert_eq!(rt;
+        expect_eq!(rt;
             first_wrong(rt.alloc(), text, &[(Number::States, count)]),
             None
         );
@@ -85,14 +88,14 @@ fn a_name_too_many(rt: HostRuntime) -> Result<(), Fail> {
     let alloc = rt.alloc();
     for (line, last) in [("states:", 7u32), ("observations:", 10_000)] {
         let (text, place) = names(alloc, line, 10_000, last)?;
-        assert_eq!(rt;
+        expect_eq!(rt;
             refusal_in_memory(alloc, text.as_bytes()),
             refused(ItemFault::BadCount, place)
         );
     }
     for last in [7, 1000] {
         let (text, place) = names(alloc, "actions:", 1000, last)?;
-        assert_eq!(rt;
+        expect_eq!(rt;
             refusal(alloc, text.as_bytes()),
             refused(ItemFault::BadCount, place)
         );

@@ -1,5 +1,6 @@
 //! The texts of faults.
 use polcert_model::{ItemFault, ModelFault, Table};
+use polcert_testing::expect_eq;
 use std::test::Fail;
 
 #[test]
@@ -15,11 +16,11 @@ fn faults_say_where(rt: HostRuntime) -> Result<(), Fail> {
         action: 0,
         row: 1,
     };
-    assert_eq!(rt;
+    expect_eq!(rt;
         format!(in alloc; "{item}")?.as_str(),
         "this line comes too late, in item 8 at byte 91"
     );
-    assert_eq!(rt;
+    expect_eq!(rt;
         format!(in alloc; "{row}")?.as_str(),
         "row 1 of O under action 0 does not sum to one"
     );

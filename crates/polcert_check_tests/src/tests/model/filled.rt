@@ -2,7 +2,7 @@
 use super::numbers::{o, r, t};
 use super::texts::{GENERAL_FIRST, GENERAL_LAST, SINGLE};
 use polcert_model::{Cells, DenseModel, Model, Row, dense_of, read_model};
-use polcert_testing::TIGER;
+use polcert_testing::{TIGER, expect_eq};
 use std::alloc::Global;
 
 /// An entry of each form and each pattern, for single cells, rows and matrices.
@@ -71,7 +71,7 @@ R: 1 : 0 : 1 : 0 48
 
 #[test]
 fn the_tiger_problem_in_filled_tables(rt: HostRuntime) {
-    assert_eq!(rt;
+    expect_eq!(rt;
         read_counts(rt.alloc(), TIGER),
         Some([2, 3, 2, 950_000, 2_000_000, 2_000_000])
     );
@@ -80,7 +80,7 @@ fn the_tiger_problem_in_filled_tables(rt: HostRuntime) {
 #[test]
 fn the_same_cells_in_filled_tables(rt: HostRuntime) {
     for text in [TIGER, SINGLE, GENERAL_FIRST, GENERAL_LAST, EVERY] {
-        assert_eq!(rt; read_alike(rt.alloc(), text), Some(true), "{text:?}");
+        expect_eq!(rt; read_alike(rt.alloc(), text), Some(true), text);
     }
 }
 

@@ -1,7 +1,7 @@
 //! The limits of elements and of cells.
 use super::numbers::{counts_and_printable, first_wrong_refusal};
 use polcert_model::ItemFault;
-use polcert_testing::RefusedModel;
+use polcert_testing::{RefusedModel, expect_eq};
 
 /// Texts, why each is refused, the item, and the place: that of a word, if the preamble has too many pairs, and an item's end,
 /// where entries give too many cells.
@@ -112,11 +112,11 @@ const REFUSED: [RefusedModel; 17] = [
 
 #[test]
 fn beyond_the_limits(rt: HostRuntime) {
-    assert_eq!(rt; first_wrong_refusal(rt.alloc(), &REFUSED), None);
+    expect_eq!(rt; first_wrong_refusal(rt.alloc(), &REFUSED), None);
 }
 
 /// Texts within the limits, with their states, actions and observations, and whether they may be printed.
-const ACCEPTED: [(&[u8], [usize; 3], bool); 11] = [
+const ACCEPTED: &[(&[u8], [usize; 3], bool)] = &[
     (
         b"discount: 1 values: reward states: 2236 actions: 1 T: 0 identity",
         [2236, 1, 2236],
@@ -176,8 +176,8 @@ const ACCEPTED: [(&[u8], [usize; 3], bool); 11] = [
 
 #[test]
 fn within_the_limits(rt: HostRuntime) {
-    for (text, counts, printable) in ACCEPTED {
-        assert_eq!(rt;
+    for &(text, counts, printable) in ACCEPTED {
+        expect_eq!(rt;
             counts_and_printable(rt.alloc(), text),
             Some((counts, printable))
         );

@@ -2,12 +2,12 @@
 use super::numbers::{Number, first_wrong, first_wrong_refusal, is_named, read_is_mdp, refusal};
 use polcert_cells::RewardCell;
 use polcert_model::{Cells, ItemFault, Kind, ModelFault, Table, read_model};
-use polcert_testing::RefusedModel;
+use polcert_testing::{RefusedModel, expect_eq};
 use polcert_text::TokenFault;
 use std::alloc::Global;
 
 /// The same model of two states, by each form of its one reward.
-const TEXTS: [&[u8]; 4] = [
+const TEXTS: &[&[u8]] = &[
     b"discount: 0.5 values: reward states: 2 actions: 1 T: 0 0 1 1 0 R: 0 : 0 : 1 1",
     b"discount: 0.5 values: reward states: 2 actions: 1 T: 0 0 1 1 0 R: 0 : 0 : 1 : * 1",
     b"discount: 0.5 values: reward states: 2 actions: 1 T: 0 0 1 1 0 R: 0 : 0 0 1",
@@ -37,9 +37,9 @@ fn a_reward_in_four_forms(rt: HostRuntime) {
         (Number::R(0, 1, 0, 0), 0),
         (Number::R(0, 1, 1, 1), 0),
     ];
-    for text in TEXTS {
-        assert_eq!(rt; first_wrong(rt.alloc(), text, &numbers), None);
-        assert_eq!(rt; read_is_mdp(rt.alloc(), text), Some(true));
+    for &text in TEXTS {
+        expect_eq!(rt; first_wrong(rt.alloc(), text, &numbers), None);
+        expect_eq!(rt; read_is_mdp(rt.alloc(), text), Some(true));
     }
 }
 
@@ -55,7 +55,7 @@ const NAMED: &[u8] =
 #[test]
 fn observations_named_as_states(rt: HostRuntime) {
     let counts = [(Number::States, 2), (Number::Observations, 2)];
-    assert_eq!(rt; first_wrong(rt.alloc(), NAMED, &counts), None);
+    expect_eq!(rt; first_wrong(rt.alloc(), NAMED, &counts), None);
     for kind in [Kind::State, Kind::Observation] {
         assert!(rt; is_named(rt.alloc(), NAMED, kind, 0, Some("up")));
         assert!(rt; is_named(rt.alloc(), NAMED, kind, 1, Some("down")));
@@ -68,11 +68,11 @@ fn a_cost_and_a_pomdp(rt: HostRuntime) {
         (Number::R(0, 0, 1, 0), -1_000_000),
         (Number::R(0, 0, 1, 1), -1_000_000),
     ];
-    assert_eq!(rt; first_wrong(rt.alloc(), COST, &paid), None);
-    assert_eq!(rt; read_is_mdp(rt.alloc(), COST), Some(true));
-    assert_eq!(rt; read_is_mdp(rt.alloc(), POMDP), Some(false));
+    expect_eq!(rt; first_wrong(rt.alloc(), COST, &paid), None);
+    expect_eq!(rt; read_is_mdp(rt.alloc(), COST), Some(true));
+    expect_eq!(rt; read_is_mdp(rt.alloc(), POMDP), Some(false));
     let seen = [(Number::O(0, 1, 0), 1_000_000)];
-    assert_eq!(rt; first_wrong(rt.alloc(), POMDP, &seen), None);
+    expect_eq!(rt; first_wrong(rt.alloc(), POMDP, &seen), None);
 }
 
 /// A reward, how many end states have another, and the first two of these with theirs.
@@ -104,17 +104,17 @@ const THREE: &[u8] =
 #[test]
 fn rewards_of_end_states(rt: HostRuntime) {
     let alloc = rt.alloc();
-    assert_eq!(rt;
+    expect_eq!(rt;
         end_rewards(alloc, THREE, 0),
         Some((4_000_000, 0, [(9, 9), (9, 9)]))
     );
-    assert_eq!(rt;
+    expect_eq!(rt;
         end_rewards(alloc, THREE, 1),
         Some((4_000_000, 2, [(0, 2_000_000), (2, -1_000_000)]))
     );
     // (There is no room for three, and in a model with observations they may differ by these.)
-    assert_eq!(rt; end_rewards(alloc, THREE, 2), None);
-    assert_eq!(rt; end_rewards(alloc, POMDP, 0), None);
+    expect_eq!(rt; end_rewards(alloc, THREE, 2), None);
+    expect_eq!(rt; end_rewards(alloc, POMDP, 0), None);
 }
 
 /// Texts, why each is refused, the item, and the place.
@@ -220,7 +220,7 @@ const REFUSED_ITEMS: [RefusedModel; 17] = [
 
 #[test]
 fn refused_items(rt: HostRuntime) {
-    assert_eq!(rt; first_wrong_refusal(rt.alloc(), &REFUSED_ITEMS), None);
+    expect_eq!(rt; first_wrong_refusal(rt.alloc(), &REFUSED_ITEMS), None);
 }
 
 /// No line of observations is missing here: the first row of T is all 0.
@@ -231,7 +231,7 @@ fn no_line_is_missing(rt: HostRuntime) {
         action: 0,
         row: 0,
     };
-    assert_eq!(rt;
+    expect_eq!(rt;
         refusal(
             rt.alloc(),
             b"discount: 0.5 values: reward states: 2 actions: 1"

@@ -2,7 +2,7 @@
 use super::numbers::{Number, first_wrong, read_is_cost, refusal, shows_same};
 use super::texts::{GENERAL_FIRST, GENERAL_LAST, SINGLE};
 use polcert_model::{ModelFault, Table};
-use polcert_testing::FIRST;
+use polcert_testing::{FIRST, expect_eq};
 use std::alloc::Global;
 
 #[test]
@@ -16,8 +16,8 @@ fn the_first_text(rt: HostRuntime) {
         (Number::R(0, 0, 0, 0), -1_000_000),
         (Number::R(0, 0, 1, 0), 0),
     ];
-    assert_eq!(rt; first_wrong(rt.alloc(), FIRST, &numbers), None);
-    assert_eq!(rt; read_is_cost(rt.alloc(), FIRST), Some(false));
+    expect_eq!(rt; first_wrong(rt.alloc(), FIRST, &numbers), None);
+    expect_eq!(rt; read_is_cost(rt.alloc(), FIRST), Some(false));
 }
 
 const UNIFORM: &[u8] =
@@ -30,11 +30,11 @@ fn a_uniform_table(rt: HostRuntime) {
         (Number::Actions, 1),
         (Number::TScale, 3_000_000),
     ];
-    assert_eq!(rt; first_wrong(rt.alloc(), UNIFORM, &numbers), None);
+    expect_eq!(rt; first_wrong(rt.alloc(), UNIFORM, &numbers), None);
     for s in 0..3 {
         for e in 0..3 {
             let cell = [(Number::T(0, s, e), 1_000_000)];
-            assert_eq!(rt; first_wrong(rt.alloc(), UNIFORM, &cell), None);
+            expect_eq!(rt; first_wrong(rt.alloc(), UNIFORM, &cell), None);
         }
     }
 }
@@ -54,7 +54,7 @@ fn single_cells_after_a_uniform_row(rt: HostRuntime) {
         (Number::T(0, 5, 5), 6_000_000),
         (Number::T(0, 5, 4), 0),
     ];
-    assert_eq!(rt; first_wrong(rt.alloc(), SINGLE, &numbers), None);
+    expect_eq!(rt; first_wrong(rt.alloc(), SINGLE, &numbers), None);
 }
 
 /// A row of six weights, and after it newer cells: one before all others, one over a cell, one of weight 0 beside them, and one
@@ -73,7 +73,7 @@ fn newer_cells_hide_those_below(rt: HostRuntime) {
         (Number::O(0, 0, 4), 0),
         (Number::O(0, 0, 5), 0),
     ];
-    assert_eq!(rt; first_wrong(rt.alloc(), NEWER, &numbers), None);
+    expect_eq!(rt; first_wrong(rt.alloc(), NEWER, &numbers), None);
 }
 
 /// Rows of O that one entry gives, and for one action and one of three states a row of single cells.
@@ -92,13 +92,13 @@ fn end_states_in_which_an_action_shows_the_same(rt: HostRuntime) {
         ([1, 2, 0], false),
         ([1, 2, 2], true),
     ] {
-        assert_eq!(rt; shows_same(rt.alloc(), TWO_ROWS, at), Some(is_same));
+        expect_eq!(rt; shows_same(rt.alloc(), TWO_ROWS, at), Some(is_same));
     }
-    assert_eq!(rt;
+    expect_eq!(rt;
         shows_same(rt.alloc(), END_STATE_OBSERVED, [0, 1, 2]),
         Some(false)
     );
-    assert_eq!(rt; shows_same(rt.alloc(), END_STATE_OBSERVED, [0, 1, 3]), None);
+    expect_eq!(rt; shows_same(rt.alloc(), END_STATE_OBSERVED, [0, 1, 3]), None);
 }
 
 /// A matrix for each action, `identity` for two of them, another matrix for one, and after them `uniform` and single cells for
@@ -146,7 +146,7 @@ fn lines_of_bodies_under_several_actions(rt: HostRuntime) {
         (Number::T(3, 2, 0), 1_000_000),
         (Number::T(3, 2, 2), 1_000_000),
     ];
-    assert_eq!(rt; first_wrong(rt.alloc(), LINES, &numbers), None);
+    expect_eq!(rt; first_wrong(rt.alloc(), LINES, &numbers), None);
 }
 
 /// Two states, two actions, and four observations: the rows of O.
@@ -192,7 +192,7 @@ fn zeros_and_weights(rt: HostRuntime) {
         [50, 25, 0, 25],
         [0, 0, 100, 0],
     ];
-    assert_eq!(rt;
+    expect_eq!(rt;
         first_wrong_cell(rt.alloc(), ZEROS_OVER_ROWS, &over_rows),
         None
     );
@@ -202,7 +202,7 @@ fn zeros_and_weights(rt: HostRuntime) {
         [10, 60, 30, 0],
         [10, 20, 30, 40],
     ];
-    assert_eq!(rt;
+    expect_eq!(rt;
         first_wrong_cell(rt.alloc(), WEIGHTS_OVER_ZEROS, &over_zeros),
         None
     );
@@ -212,7 +212,7 @@ fn zeros_and_weights(rt: HostRuntime) {
         [50, 0, 50, 0],
         [0, 0, 100, 0],
     ];
-    assert_eq!(rt;
+    expect_eq!(rt;
         first_wrong_cell(rt.alloc(), ZEROS_OVER_WEIGHTS, &over_weights),
         None
     );
@@ -222,7 +222,7 @@ fn zeros_and_weights(rt: HostRuntime) {
         [0, 30, 70, 0],
         [0, 30, 70, 0],
     ];
-    assert_eq!(rt; first_wrong_cell(rt.alloc(), ROWS_BETWEEN, &between), None);
+    expect_eq!(rt; first_wrong_cell(rt.alloc(), ROWS_BETWEEN, &between), None);
 }
 
 #[test]
@@ -237,7 +237,7 @@ fn the_last_of_two_rewards(rt: HostRuntime) {
             (Number::R(0, 1, 0, 0), -1_000_000),
             (Number::R(0, 1, 1, 0), -1_000_000),
         ];
-        assert_eq!(rt; first_wrong(rt.alloc(), text, &numbers), None);
+        expect_eq!(rt; first_wrong(rt.alloc(), text, &numbers), None);
     }
 }
 
@@ -259,7 +259,7 @@ fn rewards_by_four_patterns(rt: HostRuntime) {
         (Number::R(0, 1, 1, 0), 7_000_000),
         (Number::R(0, 1, 1, 1), 6_000_000),
     ];
-    assert_eq!(rt; first_wrong(rt.alloc(), PATTERNS, &numbers), None);
+    expect_eq!(rt; first_wrong(rt.alloc(), PATTERNS, &numbers), None);
 }
 
 const COST: &[u8] =
@@ -274,8 +274,8 @@ fn a_cost_is_a_reward_below_zero(rt: HostRuntime) {
         (Number::R(0, 0, 0, 0), 1_000_000),
         (Number::R(0, 0, 0, 1), 0),
     ];
-    assert_eq!(rt; first_wrong(rt.alloc(), COST, &numbers), None);
-    assert_eq!(rt; read_is_cost(rt.alloc(), COST), Some(true));
+    expect_eq!(rt; first_wrong(rt.alloc(), COST, &numbers), None);
+    expect_eq!(rt; read_is_cost(rt.alloc(), COST), Some(true));
 }
 
 #[test]
@@ -286,7 +286,7 @@ fn all_states_alike_without_a_start(rt: HostRuntime) {
         (Number::StartWeight(1), 1),
         (Number::StartTotal, 2),
     ];
-    assert_eq!(rt; first_wrong(rt.alloc(), FIRST, &numbers), None);
+    expect_eq!(rt; first_wrong(rt.alloc(), FIRST, &numbers), None);
 }
 
 const MATRICES: &[u8] =
@@ -309,7 +309,7 @@ fn matrices_and_identity(rt: HostRuntime) {
         (Number::O(1, 1, 0), 1_000_000),
         (Number::OScale, 1_000_000),
     ];
-    assert_eq!(rt; first_wrong(rt.alloc(), MATRICES, &numbers), None);
+    expect_eq!(rt; first_wrong(rt.alloc(), MATRICES, &numbers), None);
 }
 
 /// The rows of T are tested before those of O, by action and then by state.
@@ -337,7 +337,7 @@ fn the_first_wrong_row(rt: HostRuntime) {
     ];
     for (text, table, action, row) in rows {
         let fault = ModelFault::RowSum { table, action, row };
-        assert_eq!(rt; refusal(rt.alloc(), text), Some(fault));
+        expect_eq!(rt; refusal(rt.alloc(), text), Some(fault));
     }
 }
 
@@ -348,5 +348,5 @@ const TEN: &[u8] =
 #[test]
 fn a_number_at_the_end(rt: HostRuntime) {
     let paid = [(Number::R(0, 0, 0, 0), -10_000_000)];
-    assert_eq!(rt; first_wrong(rt.alloc(), TEN, &paid), None);
+    expect_eq!(rt; first_wrong(rt.alloc(), TEN, &paid), None);
 }

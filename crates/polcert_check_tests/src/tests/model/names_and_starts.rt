@@ -1,7 +1,7 @@
 //! Names and start items: texts that are accepted, and what they say.
 use super::numbers::{Number, first_wrong, is_named, read_is_cost, starts_with};
 use polcert_model::Kind;
-use polcert_testing::TIGER;
+use polcert_testing::{TIGER, expect_eq};
 
 const COUNTED: &[u8] =
     b"discount: 1 values: reward states: 2 actions: wait observations: 1 T: wait identity O: 00 uniform";
@@ -28,9 +28,19 @@ fn the_tiger_problem(rt: HostRuntime) {
         (Number::StartWeight(1), 1),
         (Number::StartTotal, 2),
     ];
-    assert_eq!(rt; first_wrong(rt.alloc(), TIGER, &numbers), None);
-    assert_eq!(rt; read_is_cost(rt.alloc(), TIGER), Some(false));
+    expect_eq!(rt; first_wrong(rt.alloc(), TIGER, &numbers), None);
+    expect_eq!(rt; read_is_cost(rt.alloc(), TIGER), Some(false));
 }
+
+/// Texts, elements of them, and their names.
+const NAMED: &[(&[u8], Kind, usize, Option<&str>)] = &[
+    (TIGER, Kind::State, 1, Some("tiger-right")),
+    (TIGER, Kind::Action, 0, Some("listen")),
+    (TIGER, Kind::Action, 2, Some("open-right")),
+    (TIGER, Kind::Observation, 0, Some("tiger-left")),
+    (COUNTED, Kind::State, 0, None),
+    (COUNTED, Kind::Action, 0, Some("wait")),
+];
 
 #[test]
 fn names_by_their_numbers(rt: HostRuntime) {
@@ -39,19 +49,11 @@ fn names_by_their_numbers(rt: HostRuntime) {
         (Number::Actions, 3),
         (Number::Observations, 2),
     ];
-    assert_eq!(rt; first_wrong(rt.alloc(), TIGER, &numbers), None);
+    expect_eq!(rt; first_wrong(rt.alloc(), TIGER, &numbers), None);
     let numbers = [(Number::States, 2), (Number::Actions, 1)];
-    assert_eq!(rt; first_wrong(rt.alloc(), COUNTED, &numbers), None);
-    let names = [
-        (TIGER, Kind::State, 1, Some("tiger-right")),
-        (TIGER, Kind::Action, 0, Some("listen")),
-        (TIGER, Kind::Action, 2, Some("open-right")),
-        (TIGER, Kind::Observation, 0, Some("tiger-left")),
-        (COUNTED, Kind::State, 0, None),
-        (COUNTED, Kind::Action, 0, Some("wait")),
-    ];
-    for (text, kind, index, name) in names {
-        assert!(rt; is_named(rt.alloc(), text, kind, index, name), "{name:?}");
+    expect_eq!(rt; first_wrong(rt.alloc(), COUNTED, &numbers), None);
+    for &(text, kind, index, name) in NAMED {
+        expect_eq!(rt; is_named(rt.alloc(), text, kind, index, name), true, name);
     }
 }
 
@@ -65,13 +67,13 @@ fn names_of_three_kinds(rt: HostRuntime) {
         (Number::O(0, 1, 1), 1_500_000),
         (Number::O(0, 0, 0), 1_000_000),
     ];
-    assert_eq!(rt; first_wrong(rt.alloc(), NAMES, &numbers), None);
+    expect_eq!(rt; first_wrong(rt.alloc(), NAMES, &numbers), None);
     assert!(rt; is_named(rt.alloc(), NAMES, Kind::State, 1, Some("A")));
     assert!(rt; is_named(rt.alloc(), NAMES, Kind::Observation, 1, Some("a")));
 }
 
 /// Texts, the shares of their two states in the start, and the total of the shares.
-const STARTS: [(&[u8], [u64; 2], u64); 15] = [
+const STARTS: &[(&[u8], [u64; 2], u64)] = &[
     (
         b"discount: 1 values: reward states: a b actions: 1 observations: 1 T: 0 identity O: 0 uniform",
         [1, 1],
@@ -151,8 +153,8 @@ const STARTS: [(&[u8], [u64; 2], u64); 15] = [
 
 #[test]
 fn starts_of_two_states(rt: HostRuntime) {
-    for (text, weights, total) in STARTS {
-        assert!(rt; starts_with(rt.alloc(), text, &weights, total), "{text:?}");
+    for &(text, weights, total) in STARTS {
+        expect_eq!(rt; starts_with(rt.alloc(), text, &weights, total), true, text);
     }
 }
 
@@ -164,7 +166,7 @@ fn starts_of_one_state(rt: HostRuntime) {
         b"discount: 1 values: reward states: 1 actions: 1 observations: 1 start: 1.0 T: 0 identity O: 0 uniform".as_slice(),
     ];
     for text in texts {
-        assert!(rt; starts_with(rt.alloc(), text, &[1], 1), "{text:?}");
+        expect_eq!(rt; starts_with(rt.alloc(), text, &[1], 1), true, text);
     }
 }
 
@@ -183,7 +185,7 @@ fn starts_of_three_states(rt: HostRuntime) {
         ),
     ];
     for (text, weights, total) in rows {
-        assert!(rt; starts_with(rt.alloc(), text, &weights, total), "{text:?}");
+        expect_eq!(rt; starts_with(rt.alloc(), text, &weights, total), true, text);
     }
 }
 
@@ -218,6 +220,6 @@ fn starts_of_four_states(rt: HostRuntime) {
         ),
     ];
     for (text, weights, total) in rows {
-        assert!(rt; starts_with(rt.alloc(), text, &weights, total), "{text:?}");
+        expect_eq!(rt; starts_with(rt.alloc(), text, &weights, total), true, text);
     }
 }

@@ -1,6 +1,6 @@
 //! Full forms, typed from the format's description.
 use polcert_model::{Model, read_model, write_model};
-use polcert_testing::{FIRST, FIRST_FORM, NUMBERED_MDP, TIGER, TIGER_FORM};
+use polcert_testing::{FIRST, FIRST_FORM, NUMBERED_MDP, TIGER, TIGER_FORM, expect_eq};
 use polcert_text::{BufferedSink, Sink, SinkFailed, SliceSink};
 use std::alloc::Global;
 
@@ -210,8 +210,8 @@ fn full_forms(rt: HostRuntime) {
         (NUMBERED_MDP, MDP_FORM),
         (MDP_COST, MDP_COST_FORM),
     ] {
-        assert_eq!(rt; prints(rt.alloc(), text, form), Some(true), "{text:?}");
-        assert_eq!(rt; prints(rt.alloc(), form, form), Some(true), "{form:?}");
+        expect_eq!(rt; prints(rt.alloc(), text, form), Some(true), text);
+        expect_eq!(rt; prints(rt.alloc(), form, form), Some(true), form);
     }
 }
 
@@ -304,6 +304,6 @@ fn writes_through(model: &Model, sink: &mut OneByte) -> bool {
 #[test]
 fn fails_at_each_write(rt: HostRuntime) {
     for form in [TIGER_FORM, FULL3, SIX_FORM, THIRDS_FORM, COST_FORM] {
-        assert_eq!(rt; fails_wrongly(rt.alloc(), form), Some(None), "{form:?}");
+        expect_eq!(rt; fails_wrongly(rt.alloc(), form), Some(None), form);
     }
 }

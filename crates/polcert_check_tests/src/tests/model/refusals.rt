@@ -1,7 +1,7 @@
 //! Texts that are refused, and where.
 use super::numbers::{first_wrong_refusal, refusal};
 use polcert_model::{ItemFault, ModelFault, Table};
-use polcert_testing::{RefusedModel, refused_models};
+use polcert_testing::{RefusedModel, expect_eq, refused_models};
 use polcert_text::{NumberFault, TokenFault};
 
 /// Texts that are refused beside those that other crates try as well.
@@ -70,8 +70,8 @@ const REFUSED_ITEMS: [RefusedModel; 10] = [
 
 #[test]
 fn refused_items(rt: HostRuntime) {
-    assert_eq!(rt; first_wrong_refusal(rt.alloc(), &refused_models()), None);
-    assert_eq!(rt; first_wrong_refusal(rt.alloc(), &REFUSED_ITEMS), None);
+    expect_eq!(rt; first_wrong_refusal(rt.alloc(), &refused_models()), None);
+    expect_eq!(rt; first_wrong_refusal(rt.alloc(), &REFUSED_ITEMS), None);
 }
 
 #[test]
@@ -83,5 +83,5 @@ fn refused_rows(rt: HostRuntime) {
         action: 0,
         row: 0,
     };
-    assert_eq!(rt; refusal(rt.alloc(), text), Some(fault));
+    expect_eq!(rt; refusal(rt.alloc(), text), Some(fault));
 }

@@ -9,6 +9,7 @@ use polcert_points::{
 };
 use polcert_points_form::room_above;
 use polcert_policy::{PointSet, Vectors, read_points};
+use polcert_testing::expect_eq;
 use std::alloc::Global;
 
 /// A coin that stays as it is, and that nobody sees: naming its side is worth 1.
@@ -57,25 +58,28 @@ fn found_of(alloc: Global, text: &[u8]) -> Option<Found> {
     found_in(alloc, &model, &vectors, text)
 }
 
+/// Points, the least constant that raises them, and the verdict on them, raised as far as they can be.
+const FOUND: &[(&[u8], Option<u64>, PointVerdict)] = &[
+    (b"", Some(0), PointVerdict::Yes),
+    (b"0 .5 .5 1 0 1 0", Some(0), PointVerdict::Yes),
+    (b"0 .5 .5 1 0 .999999 0", Some(2), PointVerdict::Yes),
+    (b"0 .5 .5 1.249999 - 1.25 -", Some(1), PointVerdict::Yes),
+    (b"0 0 1 1 0 1.5 0", Some(500_000), PointVerdict::Yes),
+    (
+        b"0 0 1 10000000 0 1.5 0",
+        None,
+        PointVerdict::Exceeded {
+            point: 0,
+            action: 1,
+            amount: 9_999_999_000_000_000_000_000_000_000_000,
+        },
+    ),
+];
+
 /// A word earns 0.5 at the even belief, and half of the best value after it. The last point has no room, and is short of 1 + 5,000,000.
 #[test]
 fn least_constants_of_points(rt: HostRuntime) {
-    for (text, by, verdict) in [
-        (b"".as_slice(), Some(0), PointVerdict::Yes),
-        (b"0 .5 .5 1 0 1 0", Some(0), PointVerdict::Yes),
-        (b"0 .5 .5 1 0 .999999 0", Some(2), PointVerdict::Yes),
-        (b"0 .5 .5 1.249999 - 1.25 -", Some(1), PointVerdict::Yes),
-        (b"0 0 1 1 0 1.5 0", Some(500_000), PointVerdict::Yes),
-        (
-            b"0 0 1 10000000 0 1.5 0",
-            None,
-            PointVerdict::Exceeded {
-                point: 0,
-                action: 1,
-                amount: 9_999_999_000_000_000_000_000_000_000_000,
-            },
-        ),
-    ] {
-        assert_eq!(rt; found_of(rt.alloc(), text), Some((by, verdict)));
+    for &(text, by, verdict) in FOUND {
+        expect_eq!(rt; found_of(rt.alloc(), text), Some((by, verdict)));
     }
 }

@@ -4,7 +4,7 @@ use super::{MOVES, vectors_of};
 use polcert_model::{Model, read_model};
 use polcert_optimum::{InformedRaiseFault, fit_actions, least_informed_raise};
 use polcert_policy::Vectors;
-use polcert_testing::TIGER;
+use polcert_testing::{TIGER, expect_eq};
 use std::alloc::Global;
 
 /// Two states that are never left, and a reward of 1.
@@ -62,7 +62,7 @@ fn least_constants(rt: HostRuntime) {
         (MOVES, b"0 2 2 1 2 3.999999", 2),
         (MOVES, b"0 2 1 1 1.5 4", 2_000_000),
     ] {
-        assert_eq!(rt; constant_of(rt.alloc(), model, vectors), Some(Ok(want)));
+        expect_eq!(rt; constant_of(rt.alloc(), model, vectors), Some(Ok(want)));
     }
 }
 
@@ -77,6 +77,6 @@ fn no_constants(rt: HostRuntime) {
         (UNDISCOUNTED, b"0 5 7".as_slice(), short),
         (APART, b"0 10000000 0", InformedRaiseFault::OutOfRange),
     ] {
-        assert_eq!(rt; constant_of(rt.alloc(), model, vectors), Some(Err(want)));
+        expect_eq!(rt; constant_of(rt.alloc(), model, vectors), Some(Err(want)));
     }
 }

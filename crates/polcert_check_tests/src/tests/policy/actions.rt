@@ -2,7 +2,7 @@
 
 use super::{action_of, is_written, value_at};
 use polcert_policy::{Graph, VectorFault, Vectors, read_action_vectors, read_action_vectors_from};
-use polcert_testing::Pieces;
+use polcert_testing::{Pieces, expect_eq};
 use polcert_text::{NumberFault, SliceSink, SourceFault, TokenFault};
 use std::alloc::Global;
 
@@ -59,7 +59,7 @@ const ACCEPTED: &[(&[u8], Values)] = &[
 #[test]
 fn one_vector_for_each_action(rt: HostRuntime) {
     for &(text, want) in ACCEPTED {
-        assert_eq!(rt; read(rt.alloc(), text), Ok(Some(want)));
+        expect_eq!(rt; read(rt.alloc(), text), Ok(Some(want)));
     }
 }
 
@@ -97,7 +97,7 @@ const REFUSED: &[(&[u8], VectorFault)] = &[
 #[test]
 fn refused_action_vectors(rt: HostRuntime) {
     for &(text, want) in REFUSED {
-        assert_eq!(rt; read(rt.alloc(), text), Err(want));
+        expect_eq!(rt; read(rt.alloc(), text), Err(want));
     }
 }
 
@@ -117,7 +117,7 @@ fn action_vectors_cut_anywhere(rt: HostRuntime) {
     for len in 0..=VECTORS.len() {
         let (front, _) = VECTORS.split_at(len);
         for most in [1usize, 3, 4096] {
-            assert!(rt; is_alike(rt.alloc(), front, most), "cut at {len}");
+            expect_eq!(rt; is_alike(rt.alloc(), front, most), true, len);
         }
     }
 }
@@ -138,7 +138,7 @@ fn failed_action_vectors(rt: HostRuntime) {
     for &(text, fault, failures, single_reads, whole_reads) in FAILED {
         for (most, reads) in [(1usize, single_reads), (4096, whole_reads)] {
             let found = read_from(rt.alloc(), Pieces::new(text, most, true));
-            assert_eq!(rt; found, (Err(fault), (failures, reads)));
+            expect_eq!(rt; found, (Err(fault), (failures, reads)));
         }
     }
 }
@@ -153,7 +153,7 @@ fn graph_of(alloc: Global) -> Option<([usize; 3], Option<usize>)> {
 /// As many actions as a model may have: each has a node that takes it.
 #[test]
 fn most_actions(rt: HostRuntime) {
-    assert_eq!(rt; graph_of(rt.alloc()), Some(([1000, 1000, 1], Some(999))));
+    expect_eq!(rt; graph_of(rt.alloc()), Some(([1000, 1000, 1], Some(999))));
 }
 
 /// Whether VECTORS is written as this text.
@@ -168,5 +168,5 @@ fn writes(alloc: Global, want: &[u8]) -> Option<bool> {
 #[test]
 fn written_action_vectors(rt: HostRuntime) {
     let want = b"0\n1.5 -2.25\n\n1\n-3 0.5\n\n".as_slice();
-    assert_eq!(rt; writes(rt.alloc(), want), Some(true));
+    expect_eq!(rt; writes(rt.alloc(), want), Some(true));
 }

@@ -2,7 +2,7 @@
 
 use polcert_cells::Row;
 use polcert_policy::{PointFault, PointSet, read_points, read_points_from};
-use polcert_testing::Pieces;
+use polcert_testing::{Pieces, expect_eq};
 use polcert_text::{NumberFault, SourceFault, TokenFault};
 use std::alloc::Global;
 
@@ -85,7 +85,7 @@ const ACCEPTED: &[(&[u8], Option<Last>)] = &[
 #[test]
 fn accepted_points(rt: HostRuntime) {
     for &(text, want) in ACCEPTED {
-        assert_eq!(rt; read(rt.alloc(), text), Ok(want));
+        expect_eq!(rt; read(rt.alloc(), text), Ok(want));
     }
 }
 
@@ -142,7 +142,7 @@ const REFUSED: &[(&[u8], PointFault)] = &[
 #[test]
 fn refused_points(rt: HostRuntime) {
     for &(text, want) in REFUSED {
-        assert_eq!(rt; read(rt.alloc(), text), Err(want));
+        expect_eq!(rt; read(rt.alloc(), text), Err(want));
     }
 }
 
@@ -162,7 +162,7 @@ fn points_cut_anywhere(rt: HostRuntime) {
     for len in 0..=POINTS.len() {
         let (front, _) = POINTS.split_at(len);
         for most in [1usize, 3, 4096] {
-            assert!(rt; is_alike(rt.alloc(), front, most), "cut at {len}");
+            expect_eq!(rt; is_alike(rt.alloc(), front, most), true, len);
         }
     }
 }
@@ -182,7 +182,7 @@ fn failed_points(rt: HostRuntime) {
     for &(text, fault, failures, single_reads, whole_reads) in FAILED {
         for (most, reads) in [(1usize, single_reads), (4096, whole_reads)] {
             let found = read_from(rt.alloc(), Pieces::new(text, most, true));
-            assert_eq!(rt; found, (Err(fault), (failures, reads)));
+            expect_eq!(rt; found, (Err(fault), (failures, reads)));
         }
     }
 }

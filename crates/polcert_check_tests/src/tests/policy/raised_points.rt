@@ -3,6 +3,7 @@ ghost use Rattle.polcert_points_form.specs.RaisedSet.{HasAllValues};
 
 use polcert_points_form::{room_above, write_raised_points};
 use polcert_policy::{PointSet, read_points};
+use polcert_testing::expect_eq;
 use polcert_text::SliceSink;
 use std::alloc::Global;
 
@@ -54,7 +55,7 @@ const RAISED: &[(&[u8], u64, &[u8])] = &[
 fn raised_as_far_as_they_can_be(rt: HostRuntime) {
     for &(text, by, want) in RAISED {
         let mut buffer = [0u8; 64];
-        assert_eq!(rt;
+        expect_eq!(rt;
             raised_text(rt.alloc(), text, &mut buffer, true, want),
             Some((by, true))
         );
@@ -71,5 +72,5 @@ fn raised_into_a_full_sink(rt: HostRuntime) {
         false,
         b"0 0.5 0.",
     );
-    assert_eq!(rt; found, Some((0, true)));
+    expect_eq!(rt; found, Some((0, true)));
 }

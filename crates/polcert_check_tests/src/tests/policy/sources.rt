@@ -5,7 +5,7 @@ use polcert_policy::{
     Graph, GraphFault, VectorFault, Vectors, read_graph, read_graph_from, read_vectors,
     read_vectors_from, read_vectors_up, read_vectors_up_from,
 };
-use polcert_testing::Pieces;
+use polcert_testing::{Pieces, expect_eq};
 use polcert_text::{SourceFault, TokenFault};
 use std::alloc::Global;
 
@@ -78,9 +78,9 @@ fn the_same_in_any_pieces(rt: HostRuntime) {
     let node = (2, Some(1), [Some(Some(1)), Some(None)]);
     for &(most, graph_reads, vector_reads) in READS {
         let found = first_node(rt.alloc(), Pieces::new(GRAPH, most, false));
-        assert_eq!(rt; found, (Ok(node), (0, graph_reads)));
+        expect_eq!(rt; found, (Ok(node), (0, graph_reads)));
         let found = first_value(rt.alloc(), Pieces::new(VECTORS, most, false));
-        assert_eq!(rt; found, Some((Ok(Some(-1_500_000)), (0, vector_reads))));
+        expect_eq!(rt; found, Some((Ok(Some(-1_500_000)), (0, vector_reads))));
     }
 }
 
@@ -103,7 +103,7 @@ fn refused_or_failed_graphs(rt: HostRuntime) {
     for &(text, fails, fault, failures, single_reads, whole_reads) in FAILED_GRAPHS {
         for (most, reads) in [(1usize, single_reads), (4096, whole_reads)] {
             let found = first_node(rt.alloc(), Pieces::new(text, most, fails));
-            assert_eq!(rt; found, (Err(fault), (failures, reads)));
+            expect_eq!(rt; found, (Err(fault), (failures, reads)));
         }
     }
 }
@@ -121,7 +121,7 @@ fn refused_or_failed_vectors(rt: HostRuntime) {
     for &(text, fault, failures, single_reads, whole_reads) in FAILED_VECTORS {
         for (most, reads) in [(1usize, single_reads), (4096, whole_reads)] {
             let found = first_value(rt.alloc(), Pieces::new(text, most, true));
-            assert_eq!(rt; found, Some((Err(fault), (failures, reads))));
+            expect_eq!(rt; found, Some((Err(fault), (failures, reads))));
         }
     }
 }
@@ -141,7 +141,7 @@ fn rounded_up_in_any_pieces(rt: HostRuntime) {
             Some((Ok(Some(-1_500_000)), (0, reads))),
             Some((Err(SourceFault::Device), (1, reads))),
         ];
-        assert_eq!(rt; found, want);
+        expect_eq!(rt; found, want);
     }
 }
 
@@ -162,7 +162,7 @@ fn graphs_cut_anywhere(rt: HostRuntime) {
         let slice = slice_node(rt.alloc(), front);
         for most in [1usize, 3, 4096] {
             let (found, (failures, _)) = first_node(rt.alloc(), Pieces::new(front, most, false));
-            assert_eq!(rt; (found, failures), (slice, 0), "cut at {len}");
+            expect_eq!(rt; (found, failures), (slice, 0), len);
         }
     }
 }
@@ -198,11 +198,10 @@ fn vectors_cut_anywhere(rt: HostRuntime) {
     for len in 0..=VECTORS.len() {
         let (front, _) = VECTORS.split_at(len);
         for most in [1usize, 3, 4096] {
-            assert_eq!(rt;
+            expect_eq!(rt;
                 is_alike(rt.alloc(), front, most),
                 Some(true),
-                "cut at {len}"
-            );
+                len);
         }
     }
 }
@@ -234,7 +233,7 @@ const WHOLE_IN_THE_BUFFER: &[&[u8]] = &[
 fn values_whole_in_the_buffer(rt: HostRuntime) {
     for text in WHOLE_IN_THE_BUFFER {
         for most in [1usize, 7, 4096] {
-            assert_eq!(rt; is_alike(rt.alloc(), text, most), Some(true), "{text:?}");
+            expect_eq!(rt; is_alike(rt.alloc(), text, most), Some(true), text);
         }
     }
 }

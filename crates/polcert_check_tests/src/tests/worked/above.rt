@@ -3,7 +3,7 @@ use super::{Parts, ends};
 use polcert_check::{AboveVerdict, RaiseFault, check_above, fits, least_raise, raised, start_most};
 use polcert_model::read_model;
 use polcert_policy::{read_graph, read_vectors_up};
-use polcert_testing::{NUMBERED_MDP, TIGER, TWO_STATES};
+use polcert_testing::{NUMBERED_MDP, TIGER, TWO_STATES, expect_eq};
 use std::alloc::Global;
 
 /// The parts, if the texts are read, with values rounded up.
@@ -71,7 +71,7 @@ fn most(alloc: Global, model: &[u8], graph: &[u8], vectors: &[u8]) -> Option<i64
 }
 
 /// The texts of a model, a graph and vectors, and what no node is worth more than from the start.
-const MOSTS: [(&[u8], &[u8], &[u8], i64); 8] = [
+const MOSTS: &[(&[u8], &[u8], &[u8], i64)] = &[
     (TIGER, b"0 0 0 0", b"0 -20 -20", -20_000_000),
     (
         TIGER,
@@ -110,8 +110,8 @@ const MOSTS: [(&[u8], &[u8], &[u8], i64); 8] = [
 #[test]
 fn most_from_the_start(rt: HostRuntime) {
     let alloc = rt.alloc();
-    for (model, graph, vectors, answer) in MOSTS {
-        assert_eq!(rt; most(alloc, model, graph, vectors), Some(answer));
+    for &(model, graph, vectors, answer) in MOSTS {
+        expect_eq!(rt; most(alloc, model, graph, vectors), Some(answer));
     }
 }
 
@@ -126,7 +126,7 @@ fn verdict_above(
 }
 
 /// The texts of a model, a graph and vectors, and the verdict from above.
-const ABOVE: [(&[u8], &[u8], &[u8], AboveVerdict); 10] = [
+const ABOVE: &[(&[u8], &[u8], &[u8], AboveVerdict)] = &[
     (TIGER, b"0 0 0 0", b"0 -20 -20", AboveVerdict::Yes),
     (
         TIGER,
@@ -203,8 +203,8 @@ const ABOVE: [(&[u8], &[u8], &[u8], AboveVerdict); 10] = [
 #[test]
 fn verdicts_from_above(rt: HostRuntime) {
     let alloc = rt.alloc();
-    for (model, graph, vectors, answer) in ABOVE {
-        assert_eq!(rt; verdict_above(alloc, model, graph, vectors), Some(answer));
+    for &(model, graph, vectors, answer) in ABOVE {
+        expect_eq!(rt; verdict_above(alloc, model, graph, vectors), Some(answer));
     }
 }
 
@@ -234,7 +234,7 @@ fn raised_verdict(
 }
 
 /// The texts of a model, a graph and vectors, and the least constant that raises them.
-const LEAST_RAISES: [(&[u8], &[u8], &[u8], Result<i64, RaiseFault>); 5] = [
+const LEAST_RAISES: &[(&[u8], &[u8], &[u8], Result<i64, RaiseFault>)] = &[
     (TIGER, b"0 0 0 0", b"0 -20.000001 -20.000001", Ok(1)),
     (TIGER, b"0 0 0 0", b"0 -20 -20", Ok(0)),
     (
@@ -268,8 +268,8 @@ const LEAST_RAISES: [(&[u8], &[u8], &[u8], Result<i64, RaiseFault>); 5] = [
 #[test]
 fn least_raises(rt: HostRuntime) {
     let alloc = rt.alloc();
-    for (model, graph, vectors, answer) in LEAST_RAISES {
-        assert_eq!(rt; raise(alloc, model, graph, vectors), Some(answer));
+    for &(model, graph, vectors, answer) in LEAST_RAISES {
+        expect_eq!(rt; raise(alloc, model, graph, vectors), Some(answer));
     }
 }
 
@@ -291,8 +291,8 @@ fn raised_vectors(rt: HostRuntime) {
         ),
     ];
     for (model, graph, vectors, answer) in rows {
-        assert_eq!(rt; raising(alloc, model, graph, vectors), Some(answer));
-        assert_eq!(rt;
+        expect_eq!(rt; raising(alloc, model, graph, vectors), Some(answer));
+        expect_eq!(rt;
             raised_verdict(alloc, model, graph, vectors),
             Some(AboveVerdict::Yes)
         );
