@@ -6,12 +6,11 @@ pub const ABOUT: &str =
     "Certify in exact arithmetic what a finite-state controller is worth in every model near a text's";
 
 pub const DETAILS: &str =
-    "A probability of 0 stays 0, the discount is known, and the graph is fixed. So is
-the start: a yes says nothing of how the start's probabilities were rounded.
+    "A probability of 0 stays 0, the discount is known, and the graph is fixed.
 
 A model is near if each probability above 0 of T, O and the start differs from the
 text's by at most X, or by at most P percent of it, and each reward by at most Y (0
-if not given), and each row sums to one.
+if not given), and each row and the start sum to one.
 X is rounded up to a whole part of the scale: 0.000001 over the number of columns.
 
 A yes means: in every such model, for every number of steps, from every node and
@@ -20,8 +19,8 @@ vector value where they end, is at least the vector's value (with --at-most: at
 most). And no run of positive probability reaches a missing successor. A no names a
 node and a state at which one step fails in some such model.
 
-With --within 0 the answer is that of polcert check, which also says what the
-vectors are worth from the text's start. man polcert lists the refusals.
+With --within 0 the answer is that of polcert check. man polcert lists the
+refusals.
 
 lower and raise move any vectors just enough to pass. polcert-evaluate --within
 computes vectors for the worst of these models.
