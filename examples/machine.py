@@ -17,8 +17,8 @@ def backup(model, vectors, belief):
     """The best vector of one more step at this belief: its action, and its worth in each state."""
     candidates = []
     for a in range(len(model.moves)):
-        behind = controller.beliefs_behind(model, belief, a)
-        chosen = [best(vectors, behind.get(z, belief))[1] for z in range(model.observations)]
+        after = controller.beliefs_after(model, belief, a)
+        chosen = [best(vectors, after.get(z, belief))[1] for z in range(model.observations)]
         candidates.append((a, controller.one_step(model, a, chosen)))
     return best(candidates, belief)
 

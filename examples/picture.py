@@ -5,7 +5,6 @@ For a model of two states. STATE is a state's name, ACTIONS the names of the act
 those that polcert certified, from below and from above; the worth of a node at a belief lies between two lines, each between
 the two values of one file.
 """
-import sys
 
 import controller
 
@@ -53,8 +52,13 @@ def picture(title, states, actions, lowered, raised):
     low = step * int(min(values) / step - (min(values) < 0))
     high = step * (int(max(values) / step) + 1)
     right, bottom = WIDTH - RIGHT, HEIGHT - BOTTOM
-    across = lambda belief: LEFT + belief * (right - LEFT)
-    down = lambda value: bottom - (value - low) / (high - low) * (bottom - TOP)
+
+    def across(belief):
+        return LEFT + belief * (right - LEFT)
+
+    def down(value):
+        return bottom - (value - low) / (high - low) * (bottom - TOP)
+
     out = [
         f'<svg xmlns="http://www.w3.org/2000/svg" viewBox="0 0 {WIDTH} {HEIGHT}" width="{WIDTH}" height="{HEIGHT}"'
         ' font-family="sans-serif" font-size="14">',
@@ -77,7 +81,13 @@ def picture(title, states, actions, lowered, raised):
         f'<text x="{across(0.5):.1f}" y="{bottom + 48}" text-anchor="middle">probability of {states[1]}'
         f" (0 is surely {states[0]})</text>"
     )
-    named = spread([down(second) for _, _, second in lowered], 19, bottom - 2)
+    return "\n".join([*out, *lines_of_nodes(actions, lowered, raised, down), "</svg>"])
+
+
+def lines_of_nodes(actions, lowered, raised, down):
+    """Two lines for each node, from below and from above, and its action beside them; `down` says how far down a value is."""
+    right, out = WIDTH - RIGHT, []
+    named = spread([down(second) for _, _, second in lowered], 19, HEIGHT - BOTTOM - 2)
     for n, (least, most) in enumerate(zip(lowered, raised)):
         colour = COLOURS[n % len(COLOURS)]
         dash = f' stroke-dasharray="{DASHES[n % len(DASHES)]}"' if n % len(DASHES) else ""
@@ -89,7 +99,7 @@ def picture(title, states, actions, lowered, raised):
         out.append(f'<path d="M{right} {down(least[2]):.1f}L{right + 18} {named[n]:.1f}H{right + 44}" stroke="{colour}"'
                    f' stroke-width="2.5" fill="none"{dash}/>')
         out.append(f'<text x="{right + 50}" y="{named[n] + 5:.1f}" fill="{colour}">node {n}: {actions[least[0]]}</text>')
-    return "\n".join([*out, "</svg>"])
+    return out
 
 
 def read_file(name):
@@ -97,6 +107,7 @@ def read_file(name):
         return read_vectors(file.read())
 
 
+# (Six parameters: the words of the command line.)
 def main(title, first, second, actions, lowered, raised):
     print(picture(title, [first, second], actions.split(","), read_file(lowered), read_file(raised)))
 

@@ -55,7 +55,7 @@ def name(place):
     return "goal" if MAP[y][x] == "G" else f"x{x}y{y}{heading}"
 
 
-def behind(action, place):
+def ends(action, place):
     """The places where an action ends, each with its millionths."""
     x, y, heading = place
     if action == "forward":
@@ -97,7 +97,7 @@ def write_model(file):
     for action in ACTIONS:
         lines.append(f"T: {action} : goal uniform")
         for place in places():
-            for end, parts in behind(action, place):
+            for end, parts in ends(action, place):
                 lines.append(f"T: {action} : {name(place)} : {name(end)} {controller.decimal(parts)}")
     lines += ["", "O: * : goal : at-goal 1"]
     for place in places():
@@ -115,7 +115,7 @@ def model():
     states = goal + 1
     anywhere = [(e, 1 / states) for e in range(states)]
     moves = [
-        [[(number[name(end)], parts / 1e6) for end, parts in behind(action, place)] for place in places()] + [anywhere]
+        [[(number[name(end)], parts / 1e6) for end, parts in ends(action, place)] for place in places()] + [anywhere]
         for action in ACTIONS
     ]
     sees = [[(z, chance(seen, walls(place)) / 1e6) for z, seen in enumerate(sensed())] for place in places()]

@@ -15,16 +15,16 @@ def action(more_left):
     return {2: OPEN_RIGHT, -2: OPEN_LEFT}.get(more_left, LISTEN)
 
 
-def behind(more_left):
-    """What follows where the tiger is heard on the left, and where on the right."""
+def heard(more_left):
+    """What follows if the tiger is heard on the left, and if on the right."""
     return [0, 0] if abs(more_left) == 2 else [more_left + 1, more_left - 1]
 
 
 def graph():
     met = [0]
     for more_left in met:
-        met += [after for after in behind(more_left) if after not in met]
-    return controller.Graph([action(m) for m in met], [[met.index(after) for after in behind(m)] for m in met])
+        met += [after for after in heard(more_left) if after not in met]
+    return controller.Graph([action(m) for m in met], [[met.index(after) for after in heard(m)] for m in met])
 
 
 def main(name):

@@ -10,7 +10,7 @@ from typing import Callable, Dict, Iterator, List, NamedTuple, Optional, Sequenc
 from runner import Ran
 from informed import Exact, Millionths, raised
 from polcert.files import Graph, Model, Vector
-from polcert.points import PointCheck, Points, WholeCells, check_vectors, informed_excess, rounded_up
+from polcert.points import PointCheck, Points, WholeCells, ceil_quotient, check_vectors, informed_excess
 from polcert.tokens import MILLION, decimal
 
 Pair = Tuple[int, int]
@@ -105,13 +105,13 @@ class NearController(NamedTuple):
         seen, gaps = exact.seen(), {}
         for n, action in enumerate(graph.actions):
             for s in range(exact.states):
-                means = [(p, self.of_end(n, s, e, seen[action, e], values, side)) for e, p in ends[action, s]]
+                means = [(p, self.of_end((n, s, e), seen[action, e], values, side)) for e, p in ends[action, s]]
                 gaps[n, s] = side * values[n][s] - least_mean(means, self.near.spread(exact.states * MILLION))
         return gaps
 
-    def of_end(self, n: int, s: int, e: int, seen: Sequence[Tuple[int, Fraction]], values: Sequence[Millionths], side: int) -> Fraction:
-        """The least mean at an end state of what is earned there and after it; from above of its opposite."""
-        exact, graph = self.controller
+    def of_end(self, move: Tuple[int, int, int], seen: Sequence[Tuple[int, Fraction]], values: Sequence[Millionths], side: int) -> Fraction:
+        """The least mean, for a node, a state and an end state, of what is earned there and after it; from above of its opposite."""
+        (exact, graph), (n, s, e) = self.controller, move
         row = []
         for z, q in seen:
             after = graph.successors[n][z]
@@ -149,6 +149,7 @@ def refusal(status: int, line: str) -> Ran:
     return Ran(status, b'', f'{line}\n'.encode())
 
 
+# (Six parameters: all that the line and the vectors name.)
 def move(gaps: Gaps, values: Sequence[Millionths], actions: Sequence[int], discount: Fraction, side: int, pair: str) -> Ran:
     """The answer of `lower` and `raise`: the moved vectors in full form and the constant, or why there is none."""
     word, code = ('lower', 'L') if side == BELOW else ('raise', 'U')
@@ -212,11 +213,11 @@ def polcert_answers(exact: Exact, graph: Graph, vectors: Sequence[Vector]) -> Di
     return found
 
 
-def near_answer(command: str, exact: Exact, graph: Graph, vectors: Sequence[Vector], model: Model, near: Near) -> Ran:
+def near_answer(command: str, controller: Controller, vectors: Sequence[Vector], observations: int, near: Near) -> Ran:
     """What polcert_robust answers to a word."""
     side = ABOVE if command.endswith(('raise', '--at-most')) else BELOW
-    controller, values = Controller(exact, graph), rounded_values(vectors, side)
-    lacks, gaps = controller.lacks(), NearController(controller, model.observations.count, near).gaps(values, side)
+    exact, values = controller.exact, rounded_values(vectors, side)
+    lacks, gaps = controller.lacks(), NearController(controller, observations, near).gaps(values, side)
     if not command.startswith('polcert_robust check'):
         return graph_move(controller, lacks, gaps, values, side)
     by = near.start_spread(exact.start)
@@ -242,14 +243,14 @@ def points_answer(cells: WholeCells, vectors: List[Millionths], points: Points) 
     excess = check_vectors(cells, vectors)
     if excess:
         state, action, _ = excess
-        by = rounded_up(informed_excess(cells, vectors, action, state), MILLION * cells.step_scale)
+        by = ceil_quotient(informed_excess(cells, vectors, action, state), MILLION * cells.step_scale)
         return 'vectors', answer(1, f'no: action {action}, state {state}, exceeded by {decimal(by)}')
     check = PointCheck(cells, vectors, points)
     excess = check.first_excess()
     if excess:
-        by = rounded_up(excess.amount, cells.step_scale * check.masses[excess.point])
+        by = ceil_quotient(excess.amount, cells.step_scale * check.masses[excess.point])
         return 'points', answer(1, f'no: point {excess.point}, action {excess.action}, exceeded by {decimal(by)}')
     if cells.is_mdp:  # the vectors alone: the start state is seen
         total = sum(share * max(vector[state] for vector in vectors) for state, share in cells.start.items())
-        return 'yes', answer(0, f'yes: every policy, at most {decimal(rounded_up(total, sum(cells.start.values())))}')
+        return 'yes', answer(0, f'yes: every policy, at most {decimal(ceil_quotient(total, sum(cells.start.values())))}')
     return 'yes', answer(0, f'yes: every policy, at most {decimal(check.most_from_start())}')

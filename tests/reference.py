@@ -10,7 +10,7 @@ from fractions import Fraction
 from typing import Callable, List, Optional, Sequence, Tuple
 
 from runner import Ran
-from expected import ABOVE, Near, answer, bound_answers, near_answer, points_answer, polcert_answers, refusal, rounded_values, summary_of
+from expected import ABOVE, Controller, Near, answer, bound_answers, near_answer, points_answer, polcert_answers, refusal, rounded_values, summary_of
 from informed import exact_model
 from polcert.files import FileError, Graph, Model, Source, read_graph, read_model, read_vectors
 from polcert.points import WholeCells, read_points
@@ -45,7 +45,7 @@ def answer_to_texts(command: str, texts: Sequence[bytes], near: Near) -> Optiona
     graph = read_graph(Source('graph', texts[1]), model)
     vectors = read_vectors(Source('vectors', texts[2]), model, graph)
     if command.startswith('polcert_robust '):
-        return near_answer(command, exact_model(model), graph, vectors, model, near)
+        return near_answer(command, Controller(exact_model(model), graph), vectors, model.observations.count, near)
     return polcert_answers(exact_model(model), graph, vectors)[command]
 
 

@@ -16,11 +16,15 @@ from scipy import sparse
 
 from polcert.files import Model
 from polcert.tables import RewardBlock, Row, Table
-from polcert.values import each
 
 Floats = NDArray[np.float64]
+Integers = NDArray[np.int64]
 # A scipy.sparse.csr_matrix: scipy has no types.
 Matrix = Any
+
+
+# A row of a matrix: the columns of its cells, and their values.
+SparseRow = Tuple[NDArray[Any], Floats]
 
 
 class Arrays(NamedTuple):
@@ -69,18 +73,60 @@ def _matrices(table: Table) -> List[Matrix]:
 
 def _matrix(table: Table, action: int) -> Matrix:
     """The matrix of an action."""
-    rows = list(each((row for _, row in table.row_from_all(action)), _converted))
-    begins = np.cumsum([0, *(len(columns) for columns, _ in rows)])
-    parts = np.concatenate([values for _, values in rows]), np.concatenate([columns for columns, _ in rows]), begins
-    return sparse.csr_matrix(parts, shape=(table.rows, table.columns))
+    rows: List[SparseRow] = []
+    last: Optional[Row] = None
+    for _, row in table.row_from_all(action):
+        rows.append(rows[-1] if row is last else _converted(row))  # (equal rows may be one object)
+        last = row
+    return stacked(rows, table.columns)
 
 
-def _converted(row: Row) -> Tuple[NDArray[np.int32], Floats]:
+def _converted(row: Row) -> SparseRow:
     """The columns of a row in order, and its values."""
     columns = np.fromiter(row, np.int32, len(row))
     values = np.fromiter(map(float, row.values()), np.float64, len(row))
     order = np.argsort(columns)
     return columns[order], values[order]
+
+
+# Rows of sparse matrices
+
+
+def stacked(rows: Sequence[SparseRow], columns: int) -> Matrix:
+    """The matrix that has these rows."""
+    begins = np.cumsum([0, *(len(places) for places, _ in rows)])
+    parts = np.concatenate([values for _, values in rows]), np.concatenate([places for places, _ in rows]), begins
+    return sparse.csr_matrix(parts, shape=(len(rows), columns))
+
+
+def cells_of_row(matrix: Matrix, row: int) -> slice:
+    """Where the cells of a row are among those of the matrix."""
+    return slice(matrix.indptr[row], matrix.indptr[row + 1])
+
+
+def rows_of_cells(matrix: Matrix) -> Integers:
+    """The row of each cell."""
+    return np.repeat(np.arange(matrix.shape[0], dtype=np.int64), np.diff(matrix.indptr))
+
+
+def numbers_from(begins: Integers, sizes: Integers) -> Integers:
+    """So many numbers from each begin on, one run after the other."""
+    return np.asarray(np.arange(sizes.sum()) + np.repeat(begins - (np.cumsum(sizes) - sizes), sizes))
+
+
+def cells_of_rows(matrix: Matrix, rows: Integers) -> Tuple[Integers, Floats, Integers]:
+    """The columns and the values of the cells of some rows, one row after the other, and how many cells each row has."""
+    sizes = matrix.indptr[rows + 1] - matrix.indptr[rows]
+    cells = numbers_from(matrix.indptr[rows], sizes)
+    return matrix.indices[cells], matrix.data[cells], sizes
+
+
+def joint_cells(moved: Matrix, observing: Matrix) -> Tuple[Integers, Integers, Floats]:
+    """The products of the weights of end states, in rows, and of the probabilities of observations there. Of each: the number of its row and
+    observation (row * Z + observation), the end state, and the product."""
+    observations, chances, counts = cells_of_rows(observing, moved.indices)
+    pairs = np.repeat(rows_of_cells(moved), counts) * observing.shape[1] + observations
+    return pairs, np.repeat(moved.indices, counts), np.repeat(moved.data, counts) * chances
 
 
 # Rewards
@@ -100,7 +146,7 @@ def _expected_rewards(model: Model, action: int, transitions: Matrix, observing:
     return rewards
 
 
-def blocks_of_rewards(model: Model, action: int) -> Iterator[Tuple[RewardBlock, NDArray[np.int64]]]:
+def blocks_of_rewards(model: Model, action: int) -> Iterator[Tuple[RewardBlock, Integers]]:
     """The rewards of an action, each with the start states that have them: those that follow one another."""
     blocks = ((state, model.rewards.of(action, state)) for state in range(model.states.count))
     for _, group in groupby(blocks, key=lambda pair: id(pair[1])):
@@ -119,6 +165,6 @@ def _rewards_by_end(block: RewardBlock, others: Optional[Sequence[Fraction]], re
         if constant is not None:
             values[end] = float(constant)
         else:
-            row = slice(observing.indptr[end], observing.indptr[end + 1])
+            row = cells_of_row(observing, end)
             values[end] = sum(q * float(block.at(end, z)) for z, q in zip(observing.indices[row].tolist(), observing.data[row]))
     return values

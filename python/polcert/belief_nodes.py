@@ -3,14 +3,12 @@ from collections import OrderedDict
 from typing import Dict, List, Optional, Tuple
 
 import numpy as np
-from numpy.typing import NDArray
 from scipy import sparse
 
-from polcert.arrays import Arrays, Floats, Matrix
+from polcert.arrays import Arrays, Floats, Integers, cells_of_rows
 from polcert.informed import observations_that_can_come
 from polcert.tokens import MILLION
 
-Integers = NDArray[np.int64]
 # What floating point may take off a whole number of millionths.
 NOISE = 1e-6
 # What follows beliefs is kept up to so many numbers, else forgotten for those that were not visited for longest.
@@ -156,11 +154,3 @@ class BeliefNodes:
         joint[rows, columns] = chances * sums
         begins = np.searchsorted(after, observations * np.arange(self.actions + 1))
         return BeliefStep(self.arrays.rewards[:, states] @ weights, begins, after % observations, Batch(found, joint))
-
-
-def cells_of_rows(matrix: Matrix, rows: Integers) -> Tuple[Integers, Floats, Integers]:
-    """The columns and the values of the cells of some rows, one row after the other, and how many cells each row has."""
-    begins, sizes = matrix.indptr[rows], matrix.indptr[rows + 1] - matrix.indptr[rows]
-    ends = np.cumsum(sizes)
-    cells = np.arange(ends[-1]) + np.repeat(begins - (ends - sizes), sizes)
-    return matrix.indices[cells], matrix.data[cells], sizes

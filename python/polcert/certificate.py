@@ -3,17 +3,18 @@
 Values are rounded up to millionths, and those that fail the exact check are raised until it passes.
 """
 from math import inf
-from typing import List, Optional, Sequence
+from typing import Callable, List, NamedTuple, Optional, Sequence
 
 import numpy as np
 from numpy.typing import NDArray
 
 from polcert.arrays import Floats
 from polcert.command import Refusal
-from polcert.covers import LEAST_LEFT, CoverGraph, IsOver
+from polcert.covers import LEAST_LEFT, CoverGraph
 from polcert.files import MILLION
-from polcert.points import PointCheck, Points, WholeCells, least_raise, rounded_up
+from polcert.points import PointCheck, Points, WholeCells, ceil_quotient, least_raise
 from polcert.solver import Solver
+from polcert.stopping import IsOver, after
 from polcert.tokens import LARGEST
 
 # So often covers are chosen again after values have fallen.
@@ -24,6 +25,8 @@ LEAST_GAIN = 1e-8
 NOISE = 1e-6
 # So many sweeps raise values in floating point at most. If some fail the exact check after so many sweeps, one constant is added to all.
 MOST_FLOAT_RAISES, MOST_RAISES = 1_000, 20
+# Values settle for so long if there is no time to follow more actions.
+LATE_SECONDS = 1.0
 # Floating point is wrong by less than this in what follows an action, for values of size 1, if covers leave no weight out. (It rounds by 1.2e-16
 # at most, three times for each state and observation, which are 10,000 at most. The exact check takes points a whole number of times: once less,
 # in 9e11 or more.)
@@ -40,25 +43,46 @@ def informed_vectors(cells: WholeCells, vectors: Floats) -> List[List[int]]:
     return found
 
 
-def certified_points(solver: Solver, cells: WholeCells, vectors: Sequence[Sequence[int]], is_over: IsOver) -> Points:
-    """The points that the start needs, which pass their check with these vectors, in millionths."""
+class Ends(NamedTuple):
+    """When covers are chosen again no more, and when values have to be settled."""
+
+    falling: IsOver
+    settling: IsOver
+
+
+def certified_points(
+    solver: Solver, cells: WholeCells, vectors: Sequence[Sequence[int]], ends: Ends, report: Callable[[], None]
+) -> Points:
+    """The points that the start needs, which pass their check with these vectors, in millionths. `report` is called from time to time."""
+
+    def reporting(is_over: IsOver) -> IsOver:
+        def reported() -> bool:
+            report()
+            return is_over()
+
+        return reported
+
     worth = inf
     for _ in range(STAGES):
         graph, before = CoverGraph(solver.nodes, solver.upper), worth
-        graph.settle(is_over)
+        graph.settle(reporting(ends.falling))
         solver.take(graph)
         worth = graph.start_worth
-        if is_over() or before - worth <= LEAST_GAIN * (1 + abs(worth)):
+        if ends.falling() or before - worth <= LEAST_GAIN * (1 + abs(worth)):
             break
     graph.reset_others()
-    graph.settle(lambda: False)
-    round_up(graph)
+    graph.settle(reporting(ends.settling))
+    if ends.settling():  # (the values that were found are too low then, or one constant made them too high)
+        graph.is_closed = True
+        graph.settle(after(LATE_SECONDS))
+    round_up(graph, ends.settling)
     check = PointCheck(cells, vectors, whole(graph))
     return passing(check, FloatCheck(graph, check))
 
 
-def round_up(graph: CoverGraph) -> None:
-    """Rounds values to millionths: down first, then up until no backup is above them, up to floating point."""
+def round_up(graph: CoverGraph, is_over: IsOver) -> None:
+    """Rounds values to millionths: down first, then up until no backup is above them, up to floating point. If that takes long, they are all
+    raised by one constant at the end."""
     graph.values.all[:] = np.where(graph.rows.all < 0, np.ceil(graph.values.all * MILLION - NOISE), np.floor(graph.values.all * MILLION)) / MILLION
     for _ in range(MOST_FLOAT_RAISES):
         values = graph.row_values()
@@ -66,6 +90,10 @@ def round_up(graph: CoverGraph) -> None:
         if np.array_equal(values[1:], raised[1:]):
             break
         graph.set_row_values(raised)
+        if is_over():
+            above = float((graph.backups() - raised)[1:].max(initial=0.0))
+            graph.set_row_values(raised + np.ceil(above * MILLION / (1 - graph.discount)) / MILLION)
+            break
 
 
 def whole(graph: CoverGraph) -> Points:
@@ -127,7 +155,7 @@ def raise_each(check: PointCheck, pairs: NDArray[np.bool_]) -> bool:
         is_plain = not check.points.following[point][action] and value >= sum([weight * vector[state] for state, weight in belief.items()])
         excess = 0 if is_plain else check.excess(point, action)
         if excess > 0:
-            check.points.values[point][action] += rounded_up(excess, mass * check.cells.step_scale * MILLION)
+            check.points.values[point][action] += ceil_quotient(excess, mass * check.cells.step_scale * MILLION)
             is_raised = True
     check.charge_again()
     return is_raised
@@ -139,7 +167,7 @@ def raise_all(check: PointCheck) -> None:
     constant = 0
     for point, mass in enumerate(check.masses):
         for action in range(check.cells.actions):
-            constant = max(constant, rounded_up(check.excess(point, action), scale * mass))
+            constant = max(constant, ceil_quotient(check.excess(point, action), scale * mass))
     for values in check.points.values:
         values[:] = [value + constant for value in values]
     check.charge_again()

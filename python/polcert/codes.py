@@ -10,7 +10,7 @@ class Code(NamedTuple):
 
 
 CODES: Dict[str, Code] = {
-    "M1": Code("these bytes are no name, number or sign", "see K1 to K4, of which one follows"),
+    "M1": Code("these bytes are no name, number or sign", "see K1 to K3, of which one follows"),
     "M2": Code("the number is not one of a model", "see N2 to N4, of which one follows"),
     "M3": Code("something precedes the first item's word", "remove it, or make it a comment with `#`"),
     "M4": Code("no form of the item continues like this", "compare the item with the tables of FORMAT"),

@@ -6,11 +6,12 @@ import stat
 import sys
 import tempfile
 import zlib
-from contextlib import contextmanager, suppress
+from contextlib import ExitStack, contextmanager, suppress
 from io import BytesIO
+from itertools import product
 from typing import Any, BinaryIO, Callable, Dict, Iterator, List, NamedTuple, NoReturn, Optional, Sequence, Tuple
 
-from polcert.signals import end_at_interrupts, held_back, ignore, remove, unfinished
+from polcert.signals import end_at_interrupts, held_back, ignore, program_name, remove, unfinished
 from polcert.tokens import FileError, Source, printable
 from polcert.version import VERSION
 
@@ -291,39 +292,66 @@ def _write_beside(file: _Staged, text: bytes) -> None:
 
 
 def _move(staged: Sequence[_Staged]) -> None:
-    """Moves files to their names. If one cannot be moved, those before it become again what they were."""
-    done: List[Tuple[str, Optional[str]]] = []
-    try:
-        for name, target, beside in staged:
-            with _named(name):
-                old = _beside(target) if len(staged) > 1 and os.path.exists(target) else None
-                if old:
-                    os.rename(target, old)
-                done.append((target, old))
-                os.replace(beside, target)
-    except OSError:
-        for target, old in reversed(done):
+    """Moves files to their names. If one cannot be moved, those before it become again what they were. What was there before is kept until all are
+    moved."""
+    olds: List[Tuple[str, str]] = []
+    with ExitStack() as undo:
+        for file in staged:
+            with _named(file.name):
+                old = _move_aside(file.target, undo) if file is not staged[-1] else None
+                os.replace(file.beside, file.target)
             if old:
-                os.rename(old, target)
+                olds.append((file.name, old))
             else:
-                with suppress(FileNotFoundError):
-                    os.unlink(target)
-        raise
-    for _, old in done:
-        if old:
-            os.unlink(old)
+                undo.callback(os.unlink, file.target)
+        undo.pop_all()
+    for name, old in olds:
+        _remove_old(name, old)
+
+
+def _move_aside(target: str, undo: ExitStack) -> Optional[str]:
+    """Moves a file to a path beside it, which is returned; None if there is no such file."""
+    if not os.path.exists(target):
+        return None
+    old = _beside(target)
+    os.rename(target, old)
+    undo.callback(os.rename, old, target)
+    return old
+
+
+def _remove_old(name: str, old: str) -> None:
+    try:
+        os.unlink(old)
+    except OSError as fault:
+        with suppress(OSError):
+            say(f"{program_name()}: {name} is written, but what was there before is left in {old}: {fault.strerror}")
 
 
 def refuse_unwritable(outputs: Sequence[str]) -> None:
-    """Raises OSError if a file cannot be written for its name or its folder: before a script computes for long."""
+    """Raises OSError if a file cannot be written for its name, its folder or its permissions: before a script computes for long."""
     for name in outputs:
-        folder = os.path.dirname(os.path.realpath(name))
+        target = os.path.realpath(name)
+        folder = os.path.dirname(target)
         if os.path.isdir(name):
             raise IsADirectoryError(errno.EISDIR, os.strerror(errno.EISDIR), name)
         if not os.path.isdir(folder):
             raise FileNotFoundError(errno.ENOENT, os.strerror(errno.ENOENT), name)
-        if not os.access(folder, os.W_OK):
+        if not all(os.access(path, os.W_OK) for path in (folder, target) if os.path.exists(path)):
             raise PermissionError(errno.EACCES, os.strerror(errno.EACCES), name)
+
+
+def refuse_unwritable_folder(name: str, files: Sequence[str]) -> None:
+    """The same for a folder with these files, which is made if it is missing, with those above it."""
+    if os.path.isdir(name):
+        refuse_unwritable(files)
+        return
+    path = os.path.realpath(name)
+    while not os.path.lexists(path):
+        path = os.path.dirname(path)
+    if not os.path.isdir(path):
+        raise NotADirectoryError(errno.ENOTDIR, os.strerror(errno.ENOTDIR), name)
+    if not os.access(path, os.W_OK):
+        raise PermissionError(errno.EACCES, os.strerror(errno.EACCES), name)
 
 
 def refuse_json_beside_text(parser: Parser, words: argparse.Namespace) -> None:
@@ -334,9 +362,8 @@ def refuse_json_beside_text(parser: Parser, words: argparse.Namespace) -> None:
 
 def refuse_overwriting(inputs: Sequence[str], outputs: Sequence[Optional[str]]) -> None:
     """Raises Refusal if an output is a file that is also an input. None is standard output."""
-    for output in outputs:
-        for name in inputs:
-            with suppress(OSError):
-                one, other = os.stat(0 if name == STANDARD_INPUT else name), os.stat(1 if output is None else output)
-                if stat.S_ISREG(one.st_mode) and os.path.samestat(one, other):
-                    raise Refusal(f"{output or 'standard output'}: the file is also read ({name}): write to another one")
+    for output, name in product(outputs, inputs):
+        with suppress(OSError):
+            one, other = os.stat(0 if name == STANDARD_INPUT else name), os.stat(1 if output is None else output)
+            if stat.S_ISREG(one.st_mode) and os.path.samestat(one, other):
+                raise Refusal(f"{output or 'standard output'}: the file is also read ({name}): write to another one")

@@ -2,16 +2,17 @@
 
 An action at a point is followed only if it is the best next action where the point covers a belief; the others keep their values.
 """
-from typing import Callable, Dict, List, Tuple
+from typing import Dict, List, Tuple
 
 import numpy as np
 from scipy import sparse
 
-from polcert.arrays import Floats, Matrix
-from polcert.belief_nodes import Batch, BeliefNode, BeliefNodes, Integers
+from polcert.arrays import Floats, Integers, Matrix
+from polcert.belief_nodes import Batch, BeliefNode, BeliefNodes
 from polcert.evaluation import nearly_solved
 from polcert.points import MOST_POINTS
 from polcert.sawtooth import Growing, Sawtooth
+from polcert.stopping import IsOver, Stopping
 
 # What is left of a belief is charged at a corner only if it is more than this.
 LEAST_LEFT = 1e-12
@@ -19,8 +20,6 @@ LEAST_LEFT = 1e-12
 LEAST_MOVE, MOST_CHOICES = 1e-10, 200
 # The most steps that find values for chosen actions, and sweeps after these; and how near they come, for values of size 1.
 MOST_STEPS, MOST_SWEEPS, SOLVED = 2_000, 100, 1e-12
-
-IsOver = Callable[[], bool]
 
 
 class Covers:
@@ -64,8 +63,8 @@ class CoverGraph:
         # for each row the belief, the action and the reward at once
         self.row_belief, self.row_action, self.gains = Growing(np.int64), Growing(np.int64), Growing(np.float64)
         self.covers = Covers()
-        # whether actions that are not followed have the values of the search
-        self._is_guess = True
+        # whether actions that are not followed have the values of the search, and whether no more are followed
+        self._is_guess, self.is_closed = True, False
         self._add_row(-1, 0, 0.0)
         self._cover(0, np.zeros(1, np.int64), nodes.start.own, slice(0, 1))
 
@@ -152,7 +151,7 @@ class CoverGraph:
         for _ in range(MOST_CHOICES):
             best = self._follow_best(is_over)
             before = self.row_values()
-            found = self._solved(best)
+            found = self._solved(best, is_over)
             self.set_row_values(found)
             moved = abs(found - before)[1:] / (1 + abs(found[1:]))
             if is_over() or moved.max(initial=0.0) <= LEAST_MOVE:
@@ -164,7 +163,7 @@ class CoverGraph:
     def _follow_best(self, is_over: IsOver) -> Integers:
         """Follows the best next action of each cover at its point and its corners, until there is nothing new. Returns these actions."""
         first, best = 0, np.zeros(0, np.int64)
-        while first < self.covers.count and not is_over():
+        while first < self.covers.count and not self.is_closed and not is_over():
             new = self.worths(first).argmax(axis=1)
             best = np.concatenate([best, new])
             pairs = self._needed(best, first)
@@ -187,7 +186,7 @@ class CoverGraph:
         pairs = np.concatenate([np.column_stack([points, best[first:]]), np.column_stack([corners, best[left]])])
         return np.asarray(pairs[pairs[:, 0] >= 0])
 
-    def _solved(self, best: Integers) -> Floats:
+    def _solved(self, best: Integers, is_over: IsOver) -> Floats:
         """The values of the rows with these next actions."""
         matrix, constant = self._equations(best)
         least = SOLVED * (1 + float(abs(constant).max()) / (1 - self.discount))
@@ -195,7 +194,7 @@ class CoverGraph:
         def step(values: Floats) -> Floats:
             return np.asarray(constant + matrix @ values)
 
-        values = nearly_solved(step, self.row_values(), least, MOST_STEPS)
+        values = nearly_solved(step, self.row_values(), Stopping(least, MOST_STEPS, is_over))
         for _ in range(MOST_SWEEPS):  # (the method may have found none that are better)
             before, values = values, step(values)
             if abs(values - before).max() <= least:

@@ -2,14 +2,20 @@
 import argparse
 from fractions import Fraction
 from math import ceil
-from typing import NamedTuple, Optional
+from typing import TYPE_CHECKING, NamedTuple, Optional, TypeVar
 
 from polcert.tokens import MILLION, NumberFault, exact_value, is_numeral
+
+if TYPE_CHECKING:
+    from polcert.arrays import Integers
 
 # The most decimals of a distance of probabilities, and the largest distance of rewards.
 DECIMALS, MOST_OF_REWARDS = 12, 1_000_000
 # The parts of a percent, and the parts of the whole that 100 percent are.
 OF_PERCENT, OF_WHOLE = MILLION, 100 * MILLION
+
+
+WholeWeight = TypeVar("WholeWeight", int, "Integers")
 
 
 class Distances(NamedTuple):
@@ -28,7 +34,8 @@ class Spread(NamedTuple):
     parts: int
     percent: int = 0
 
-    def of(self, weight: int) -> int:
+    def of(self, weight: WholeWeight) -> WholeWeight:
+        """How far this weight may lie from its own, or each weight of an array."""
         return self.parts - (-weight * self.percent) // OF_WHOLE
 
 

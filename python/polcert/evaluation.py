@@ -1,20 +1,21 @@
 """Evaluates policy graphs with numpy and scipy: what each node is worth in each state, in floating point, and in millionths that pass
 polcert's check."""
-from typing import Callable, Dict, List, NamedTuple, Optional, Sequence
+from math import ceil
+from typing import Callable, Dict, List, NamedTuple, Optional, Sequence, Tuple
 
 import numpy as np
-from numpy.typing import NDArray
 
-from polcert.arrays import Arrays, Floats
+from polcert.arrays import Arrays, Floats, Integers, rows_of_cells
 from polcert.command import Refusal
 from polcert.files import Graph
+from polcert.stopping import IsOver, Stopping, never
 from polcert.tokens import MILLION
 
-Integers = NDArray[np.int64]
-
-MOST_SWEEPS, MOST_ROUNDING = 100_000, 1_000
+PRECISION, MOST_SWEEPS, MOST_ROUNDING = 1e-10, 100_000, 1_000
 # The most steps of the method that solves the equations, which ends if it has strayed so far from the best values.
 MOST_SOLVING, STRAYED = 2_000, 1e4
+# So few equations are solved by elimination if that method does not (as with discounts very near 1).
+MOST_DIRECT = 300
 # So many numbers are held at most for a block of nodes.
 BLOCK_NUMBERS = 1_000_000
 # What rounding may move a value by in a sweep, for values of size 1, and what floating point may add to a value, in millionths.
@@ -50,7 +51,7 @@ class ActionBackup:
         self.states = len(self.rewards)
         self.observations, self.chances = by_end.indices, by_end.data
         self.begins = by_end.indptr[:-1]
-        self.ends = np.repeat(np.arange(self.states), np.diff(by_end.indptr))
+        self.ends = rows_of_cells(by_end)
         seen = np.flatnonzero(np.diff(by_observation.indptr))
         self.by_cell = by_end.nnz < FEW_ENDS * len(seen)
         self.columns = [] if self.by_cell else [(int(z), by_observation[:, z].toarray().ravel()) for z in seen]
@@ -80,7 +81,7 @@ class Sweeper:
     """Backs all nodes of graphs up at once."""
 
     def __init__(self, arrays: Arrays) -> None:
-        self._arrays = arrays
+        self.arrays = arrays
         self._backups: Dict[int, ActionBackup] = {}
 
     def sweep(self, graph: ArrayGraph, values: Floats) -> Floats:
@@ -88,7 +89,7 @@ class Sweeper:
         after, new = np.concatenate([values, np.zeros((1, values.shape[1]))]), np.empty_like(values)
         for action in np.unique(graph.actions).tolist():
             if action not in self._backups:
-                self._backups[action] = ActionBackup(self._arrays, action)
+                self._backups[action] = ActionBackup(self.arrays, action)
             backup, nodes = self._backups[action], np.flatnonzero(graph.actions == action)
             size = max(1, BLOCK_NUMBERS // backup.width)
             for some in (nodes[i : i + size] for i in range(0, len(nodes), size)):
@@ -97,33 +98,52 @@ class Sweeper:
 
 
 def evaluate(
-    arrays: Arrays, graph: ArrayGraph, values: Optional[Floats] = None, precision: float = 1e-10, most: Optional[int] = None
+    arrays: Arrays, graph: ArrayGraph, values: Optional[Floats] = None, precision: float = PRECISION, is_over: IsOver = never
 ) -> Floats:
     """What each node is worth in each state (N by S), from given values on, until no value is further off than the precision (and than
-    rounding allows), or after about `most` sweeps. Raises Refusal if the values do not settle."""
-    sweeper, least = Sweeper(arrays), precision * (1 - arrays.discount)
-    values, sweeps = np.zeros((len(graph.actions), len(arrays.start))) if values is None else values, most or MOST_SWEEPS
-    values = nearly_solved(lambda worth: sweeper.sweep(graph, worth), values, least, min(sweeps, MOST_SOLVING))
-    for _ in range(sweeps):
+    rounding allows), or until it is over. Raises Refusal if the values do not settle."""
+    begin = np.zeros((len(graph.actions), len(arrays.start))) if values is None else values
+    found, is_settled = evaluate_until(arrays, graph, begin, Stopping(precision, MOST_SWEEPS, is_over))
+    if not is_settled and not is_over():
+        raise Refusal("what the graph is worth does not settle")
+    return found
+
+
+def evaluate_until(arrays: Arrays, graph: ArrayGraph, values: Floats, stopping: Stopping) -> Tuple[Floats, bool]:
+    """The same, or what is found after about so many sweeps, and whether the values settled."""
+    sweeper, least = Sweeper(arrays), stopping.near * (1 - arrays.discount)
+    solving = stopping._replace(near=least, rounds=min(stopping.rounds, MOST_SOLVING))
+    values = nearly_solved(lambda worth: sweeper.sweep(graph, worth), values, solving)
+    for _ in range(stopping.rounds):
         new = sweeper.sweep(graph, values)
         moved, values = float(abs(new - values).max()), new
         if moved <= least + ROUNDING * float(abs(values).max()):
-            return values
-    if most:
-        return values
-    raise Refusal("what the graph is worth does not settle")
+            return values, True
+        if stopping.is_over():
+            break
+    return values, False
 
 
-def nearly_solved(step: Callable[[Floats], Floats], values: Floats, least: float, most: int) -> Floats:
-    """Values that a linear step moves by little, if they are found from given values on with at most so many steps; else those that it moved
-    least. (The method is BiCGSTAB: van der Vorst, SIAM Journal on Scientific and Statistical Computing 1992.)"""
+def evaluate_below(arrays: Arrays, graph: ArrayGraph, values: Floats, stopping: Stopping) -> Floats:
+    """The same, but less if the values do not settle: those given or those found, whichever promise more from the start less the constant that
+    makes them hold."""
+    found, is_settled = evaluate_until(arrays, graph, values, stopping)
+    if is_settled:
+        return found
+    both = [lowered(Sweeper(arrays), graph, some) for some in (values, found)]
+    return max(both, key=lambda some: float((some @ arrays.start).max()))
+
+
+def nearly_solved(step: Callable[[Floats], Floats], values: Floats, stopping: Stopping) -> Floats:
+    """Values that a linear step moves by little, if they are found from given values on before the end; else those that it moved least. (The
+    method is BiCGSTAB: van der Vorst, SIAM Journal on Scientific and Statistical Computing 1992.)"""
     fixed = step(np.zeros_like(values))
     left = step(values) - values
     shadow, direction, image = left, np.zeros_like(values), np.zeros_like(values)
     rho = alpha = omega = 1.0
     best, best_left = values, float(abs(left).max())
-    for _ in range(most // 2):
-        if best_left <= least:
+    for _ in range(stopping.rounds // 2):
+        if best_left <= stopping.near or stopping.is_over():
             break
         before, rho = rho, float(np.vdot(shadow, left))
         direction = left + rho / before * alpha / omega * (direction - omega * image)
@@ -139,19 +159,38 @@ def nearly_solved(step: Callable[[Floats], Floats], values: Floats, least: float
             break
         if size < best_left:
             best, best_left = values, size
+    if best_left > stopping.near and values.size <= MOST_DIRECT:
+        values = directly_solved(step, fixed)
+        best = values if float(abs(step(values) - values).max()) < best_left else best
     return best
 
 
-def in_millionths(arrays: Arrays, graph: ArrayGraph, values: Floats) -> Floats:
+def directly_solved(step: Callable[[Floats], Floats], fixed: Floats) -> Floats:
+    """The values that a linear step does not move, by elimination. `fixed` is the step of zeros."""
+    columns = [(step(unit.reshape(fixed.shape)) - fixed).ravel() for unit in np.eye(fixed.size)]
+    found: Floats = np.linalg.solve(np.eye(fixed.size) - np.array(columns).T, fixed.ravel()).reshape(fixed.shape)
+    return found
+
+
+def in_millionths(arrays: Arrays, graph: ArrayGraph, values: Floats, is_over: IsOver = never) -> Floats:
     """The greatest values with six decimals below `values` (N by S) that no sweep takes below them, up to floating point: polcert's check
-    passes with these, or with a constant of a millionth or so less."""
-    sweeper, found = Sweeper(arrays), np.ceil(values * MILLION)
-    for _ in range(MOST_ROUNDING):
-        new = np.minimum(found, np.floor(sweeper.sweep(graph, found / MILLION) * MILLION + NOISE))
-        if np.array_equal(new, found):
-            break
-        found = new
-    return np.asarray(found / MILLION)
+    passes with these, or with a constant of a millionth or so less. If they are not found soon, or it is over, one constant less."""
+    sweeper, found, rounds = Sweeper(arrays), np.ceil(values * MILLION), 0
+
+    def swept() -> Floats:
+        return np.asarray(np.minimum(found, np.floor(sweeper.sweep(graph, found / MILLION) * MILLION + NOISE)))
+
+    new = swept()
+    while not np.array_equal(new, found) and rounds < MOST_ROUNDING and not is_over():
+        found, rounds = new, rounds + 1
+        new = swept()
+    return np.asarray((found - ceil(float((found - new).max()) / (1 - arrays.discount))) / MILLION)
+
+
+def lowered(sweeper: Sweeper, graph: ArrayGraph, values: Floats) -> Floats:
+    """Values (N by S) less the constant with which no sweep takes them lower, up to floating point."""
+    above = max(0.0, float((values - sweeper.sweep(graph, values)).max()))
+    return np.asarray(values - above / (1 - sweeper.arrays.discount))
 
 
 def reached_nodes(graph: ArrayGraph, roots: Sequence[int]) -> List[int]:

@@ -44,7 +44,7 @@ def number_of(word: str, where: Element) -> Fraction:
         raise where.fault(f"{quoted(word)}: {fault}") from None
 
 
-class Entry(NamedTuple):
+class FactoredEntry(NamedTuple):
     """An entry of a table: for each place a value, None for `*` or -1 for `-`; and numbers for all values of the places with `-`. `word` is
     `identity`, `uniform` or nothing."""
 
@@ -54,7 +54,7 @@ class Entry(NamedTuple):
     word: str
 
 
-class Table:
+class FactoredTable:
     """A function that a table gives: of the parents, and of the variable `own` unless it is a reward. Of entries that give a value the last
     one holds; what none gives is 0."""
 
@@ -62,12 +62,12 @@ class Table:
         self._places, self._parents, self._own = [*parents, *([own] if own else [])], len(parents), own
         self._numbers = numbers = "ProbTable" if own else "ValueTable"
         # (entries by the parents of which they name a value, and by these values)
-        self._entries: Dict[Tuple[int, ...], Dict[Tuple[Optional[int], ...], List[Entry]]] = {}
+        self._entries: Dict[Tuple[int, ...], Dict[Tuple[Optional[int], ...], List[FactoredEntry]]] = {}
         for order, element in enumerate(parameter.all("Entry")):
             element.all("Instance", numbers)
             self._add(self._read(order, element))
 
-    def _read(self, order: int, element: Element) -> Entry:
+    def _read(self, order: int, element: Element) -> FactoredEntry:
         instance, table = element.one("Instance"), element.one(self._numbers)
         words = instance.text.split()
         if len(words) != len(self._places):
@@ -82,21 +82,21 @@ class Table:
         if found == ["identity"]:
             if len(sizes) != 2 or sizes[0] != sizes[1]:
                 raise table.fault("`identity` needs two `-` in its `<Instance>`, of variables with as many values")
-            return Entry(order, places, [], "identity")
+            return FactoredEntry(order, places, [], "identity")
         if found == ["uniform"]:
             if places[-1] is not None and places[-1] >= 0:
                 raise table.fault("`uniform` needs a `-` or a `*` as the last word of its `<Instance>`")
-            return Entry(order, places, [], "uniform")
+            return FactoredEntry(order, places, [], "uniform")
         if len(found) != prod(sizes):
             raise table.fault(f"expected {prod(sizes)} numbers, found {len(found)}")
-        return Entry(order, places, [number_of(word, table) for word in found], "")
+        return FactoredEntry(order, places, [number_of(word, table) for word in found], "")
 
-    def _add(self, entry: Entry) -> None:
+    def _add(self, entry: FactoredEntry) -> None:
         named = tuple(i for i, value in enumerate(entry.places[: self._parents]) if value is not None and value >= 0)
         key = tuple(entry.places[i] for i in named)
         self._entries.setdefault(named, {}).setdefault(key, []).append(entry)
 
-    def entries(self, values: Sequence[int]) -> List[Entry]:
+    def entries(self, values: Sequence[int]) -> List[FactoredEntry]:
         """The entries for these values of the parents, in the order of the text."""
         found = [by_key.get(tuple(values[i] for i in named), []) for named, by_key in self._entries.items()]
         return sorted(entry for entries in found for entry in entries)
@@ -110,7 +110,7 @@ class Table:
                 cells[value or 0] = self._number(entry, [*values, value or 0])
         return [(value, number) for value, number in sorted(cells.items()) if number]
 
-    def _number(self, entry: Entry, values: Sequence[int]) -> Fraction:
+    def _number(self, entry: FactoredEntry, values: Sequence[int]) -> Fraction:
         free = [i for i, place in enumerate(entry.places) if place == -1]
         if entry.word == "uniform":
             return Fraction(1, len(self._places[-1].labels))
@@ -224,10 +224,10 @@ class Function:
         parameter = element.one("Parameter")
         kind = parameter.attributes.get("type", "TBL")
         self._kept: Dict[Tuple[int, ...], Distribution] = {}
-        self._table: Optional[Table] = None
+        self._table: Optional[FactoredTable] = None
         self._diagram: Optional[Diagram] = None
         if kind == "TBL":
-            self._table = Table(parameter, parents, own)
+            self._table = FactoredTable(parameter, parents, own)
         elif kind == "DD":
             self._diagram = Diagram(parameter, {place.name: place for place in [*parents, *([own] if own else [])]}, before)
         else:

@@ -19,7 +19,7 @@ from typing import Dict, List, NamedTuple, Optional, Sequence, Tuple
 
 from polcert.tables import Elements, Entry, Numbers, Places, Rewards, Row, SeenEnds, Start, Table
 from polcert.tokens import (
-    BAD, COLON, END, MILLION, NAME, NUMERAL, SIGN, STAR, Cursor, FileError, NumberFault, Source, Token, is_millionths, number_after,
+    BAD, COLON, END, MILLION, NAME, NUMERAL, SIGN, STAR, Cursor, FileError, NumberFault, Source, Token, is_millionths, number_after, quantity,
 )
 
 # What others take from here, of which some stands in tables and tokens.
@@ -85,15 +85,14 @@ def read_model(source: Source, tolerant: bool = False) -> Model:
 
 
 def _refuse_wrong_sums(model: Model) -> None:
-    for table in model.tables():
-        for action in range(table.actions):
-            last = None  # (equal rows may be one object)
-            for row, cells in table.row_from_all(action):
-                if cells is not last and sum(cells.values()) != 1:
-                    refusal = f"model: M17 in {table.letter}, action {action}, row {row}"
-                    why = f"the row of {table.letter} for action {action} and state {row} does not sum to one"
-                    raise FileError(model.source, "M17", place_of_row(model, table, action, row), why, refusal)
-                last = cells
+    for table, action in ((table, action) for table in model.tables() for action in range(table.actions)):
+        last = None  # (equal rows may be one object)
+        for row, cells in table.row_from_all(action):
+            if cells is not last and sum(cells.values()) != 1:
+                refusal = f"model: M17 in {table.letter}, action {action}, row {row}"
+                why = f"the row of {table.letter} for action {action} and state {row} does not sum to one"
+                raise FileError(model.source, "M17", place_of_row(model, table, action, row), why, refusal)
+            last = cells
 
 
 def place_of_row(model: Model, table: Table, action: int, row: int) -> int:
@@ -279,7 +278,7 @@ class _ModelReader:
             if are_probabilities:
                 self.probability(value, begin)
             numbers.add(value, begin, numeral)
-        self.end_of_numbers(f"no more than {count} number{'s' if count > 1 else ''}")
+        self.end_of_numbers(f"no more than {quantity(count, 'number')}")
         return numbers
 
     # The start
@@ -330,7 +329,7 @@ class _ModelReader:
                 self.probability(value, begin)
             elif not self.at_item_end():
                 raise self.unexpected("M4", "a number or the end of the item")
-        self.end_of_numbers(f"no more than {count} number{'s' if count > 1 else ''}")
+        self.end_of_numbers(f"no more than {quantity(count, 'number')}")
         self.finish_start(word, numbers)
 
     def finish_start(self, word: Token, numbers: Numbers) -> None:
@@ -486,18 +485,12 @@ class _GraphReader:
         self.graph.successors.append([self.successor(z) for z in range(self.observations)])
 
     def successor(self, observation: int) -> Optional[int]:
-        token = self.cursor.next
-        if token.kind == NAME and token.text == b"X" or token.text == b"-" and not self.is_sign(token):
+        if self.cursor.is_at_none():
             self.cursor.take()
             return None
         number = self.digits(f"the successor for observation {observation}: a node, `-` or `X`")
         self.cursor.take()
         return number
-
-    def is_sign(self, token: Token) -> bool:
-        """Whether a numeral stands directly after a `-`."""
-        after = self.cursor.after_next()
-        return after.kind == NUMERAL and after.begin == token.end
 
     def refuse_missing_nodes(self) -> None:
         count = len(self.graph.actions)

@@ -8,7 +8,7 @@ from typing import Dict, Iterable, Iterator, List, Optional, Sequence, Tuple
 from polcert.command import Refusal
 from polcert.factored import ONE, Function, Values, Variable
 from polcert.files import ITEM_WORDS, LARGE_TABLE, OTHER_RESERVED
-from polcert.observability import Part, comment_of
+from polcert.observability import StateVariable, comment_of
 from polcert.pomdpx import Factored, count_of, place_of, set_values
 from polcert.version import VERSION
 
@@ -62,7 +62,7 @@ class Flattener:
         return names[number] if names else str(number)
 
     def head(self) -> List[str]:
-        parts = [Part(len(part.before.labels), part.is_seen) for part in self.model.parts]
+        parts = [StateVariable(len(part.before.labels), part.is_seen) for part in self.model.parts]
         comment = comment_of([variable.name for variable in self.before], parts)
         lines = [f"# Made by polcert-convert {VERSION} of a model in POMDPX.", comment, ""]
         lines += [f"discount: {decimal_of(self.model.discount)}", "values: reward"]
@@ -72,7 +72,7 @@ class Flattener:
         return lines + [f"{word}: {' '.join(self.names[kind] or [str(count)])}" for word, kind, count in kinds]
 
     def runs(self, functions: Sequence[Function], weight: Fraction = ONE) -> Iterator[Fraction]:
-        """Puts all combinations of the functions' variables into the values, one after another, and answers the probability of each."""
+        """Puts all combinations of the functions' variables into the values, one after another, and yields the probability of each."""
         if not functions:
             yield weight
             return
@@ -87,10 +87,11 @@ class Flattener:
         cells: Row = {}
         for weight in self.runs(functions):
             cells[place_of(self.values, variables)] = weight
-        self.count(len(cells))
+        self.count_cells(len(cells))
         return cells
 
-    def count(self, cells: int) -> None:
+    def count_cells(self, cells: int) -> None:
+        """Counts cells of the text. Raises Refusal if they are too many by now."""
         self.cells += cells
         if self.cells > LARGE_TABLE:
             raise Refusal(f"{self.model.source.name}: the model has more than {LARGE_TABLE:,} cells other than 0, of which no more are read")
@@ -142,7 +143,7 @@ class Flattener:
                 by_state.append(found[1])
             if by_state[0] is not None and len(set(by_state)) == 1:
                 lines = [f"R: {self.name('a', action)} : * : *{self.any_seen()} {decimal_of(by_state[0])}"] if by_state[0] else []
-            self.count(len(lines))
+            self.count_cells(len(lines))
             yield from lines
 
     def any_seen(self) -> str:

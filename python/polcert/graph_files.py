@@ -7,13 +7,15 @@ from polcert.command import say, show, write_files
 from polcert.drawing import dot_of
 from polcert.evaluation import ArrayGraph, array_graph, evaluate, listed_graph
 from polcert.files import Graph, Model
-from polcert.graphs import Limits, graph_of_vectors
+from polcert.graph_limits import GraphLimits
+from polcert.graphs import graph_of_vectors
 from polcert.json_output import json_text
 from polcert.policies import Solved
 from polcert.reach import Reach, best_of, policy_of
+from polcert.tokens import quantity
 from polcert.values import graph_text, vectors_text
 from polcert.watch import Watch
-from polcert.witness import find_witness, own_vectors_text
+from polcert.witness import find_witness
 
 # How exactly the graph that is written is evaluated.
 FINE = 1e-7
@@ -25,12 +27,11 @@ def write_graph_files(model: Model, found: Union[Graph, List[Solved]], names: Se
     if isinstance(found, Graph):
         write_graph(reach, array_graph(found), None, Output(model, names, words.json))
         return
-    solved = [Solved(action, [-value for value in values]) for action, values in found] if words.costs else found
     if words.own_vectors:
-        write_witness(reach, solved, Output(model, names, words.json), words)
+        write_witness(reach, found, Output(model, names, words.json), words)
         return
-    policy, watch = policy_of(solved), Watch(words.quiet)
-    limits = Limits(words.nodes, words.beliefs, words.points, words.rounds)
+    policy, watch = policy_of(found), Watch(words.quiet)
+    limits = GraphLimits(words.nodes, words.beliefs, words.points, words.rounds)
     graph = graph_of_vectors(reach, policy, limits, watch)
     if watch.is_over():
         say("polcert-graph: interrupted: the best graph so far is written")
@@ -58,15 +59,15 @@ def write_graph(reach: Reach, graph: ArrayGraph, claim: Optional[float], output:
         show_result(names, len(graph.actions), worth=round(earned, 6), claim=None if claim is None else round(claim, 6))
         return
     claimed = "" if claim is None else f"; the vectors claim {claim:.6f}, {difference(claim - earned)}"
-    nodes = f"{len(graph.actions)} node{'' if len(graph.actions) == 1 else 's'}"
-    say(f"{names[0]}: {nodes}, worth {earned:.6f} from the start{claimed}")
+    say(f"{names[0]}: {quantity(len(graph.actions), 'node')}, worth {earned:.6f} from the start{claimed}")
 
 
 def write_witness(reach: Reach, solved: Sequence[Solved], output: Output, words: argparse.Namespace) -> None:
     """Writes a graph for a solver's own vectors, and those of them that it backs."""
     found = find_witness(reach, solved, words.within, words.tries, Watch(words.quiet, can_end_early=False))
     vectors, names = [solved[n] for n in found.kept], output.names
-    output.write(found.graph, own_vectors_text(vectors))
+    # (with all digits, which polcert rounds down as it reads them)
+    output.write(found.graph, vectors_text((vector.action for vector in vectors), (vector.values for vector in vectors), repr))
     claim = best_of(reach.start, policy_of(vectors).vectors)[0][0]
     if output.is_json:
         left_out = [int(n) for n in found.left_out]

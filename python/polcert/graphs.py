@@ -8,9 +8,11 @@ from typing import Dict, List, NamedTuple, Sequence, Tuple
 import numpy as np
 from scipy import sparse
 
-from polcert.arrays import Floats, Matrix
-from polcert.evaluation import ArrayGraph, Integers, evaluate, reached_nodes, renumbered
-from polcert.reach import NODE_DECIMALS, Ahead, Met, Point, Policy, Reach, Step, best_of, met_vectors, points_after, stacked, together
+from polcert.arrays import Floats, Integers, Matrix, stacked
+from polcert.evaluation import ArrayGraph, Sweeper, evaluate, lowered, reached_nodes, renumbered
+from polcert.graph_limits import GraphLimits
+from polcert.reach import NODE_DECIMALS, Ahead, BeliefStep, Met, Point, Policy, Reach, best_of, met_vectors, points_after, together
+from polcert.tokens import quantity
 from polcert.watch import Watch
 
 # How exactly the graphs are evaluated of which the best one is chosen, for values of size 1. A new node has to be worth more by so much of
@@ -20,16 +22,6 @@ ROUGH, LEAST_GAIN = 1e-5, 0.1
 FEWEST_BELIEFS, LEAST_GROWTH = 5, 4
 # So many rounds of linking in which the start is worth no more end it.
 IDLE_ROUNDS = 2
-
-
-class Limits(NamedTuple):
-    """How many nodes a graph has at most, how many beliefs are followed to meet vectors, at how many more beliefs nodes are added, and how
-    often that is done, and successors are chosen again."""
-
-    nodes: int
-    beliefs: int
-    points: int
-    rounds: int
 
 
 class Candidate(NamedTuple):
@@ -56,7 +48,13 @@ def candidate(reach: Reach, graph: ArrayGraph, values: Floats) -> Candidate:
     return Candidate(float(most[0]), int(root[0]), graph, values)
 
 
-def better(one: Candidate, two: Candidate) -> Candidate:
+def evaluated(reach: Reach, graph: ArrayGraph, values: Floats, precision: float, watch: Watch) -> Floats:
+    """What the nodes are worth, from given values on, or if the watch is over, less."""
+    found = evaluate(reach.arrays, graph, values, precision, watch.is_over)
+    return lowered(Sweeper(reach.arrays), graph, found) if watch.is_over() else found
+
+
+def better_candidate(one: Candidate, two: Candidate) -> Candidate:
     return two if two.worth > one.worth else one
 
 
@@ -129,23 +127,23 @@ def linked_best(reach: Reach, links: Links, rounds: int, precision: float, watch
     """Chooses the successors by what the nodes are worth, as long as the start is worth more, and returns the best graph of these rounds."""
     linker, idle = Linker(reach, links), 0
     graph = linker.linked(links.values)
-    best = candidate(reach, graph, evaluate(reach.arrays, graph, links.values, precision))
+    best = candidate(reach, graph, evaluated(reach, graph, links.values, precision, watch))
     values = best.values
     for _ in range(rounds - 1):
-        watch.report(f"{len(graph.actions):,} nodes, worth {best.worth:.6f}")
+        watch.report(f"{quantity(len(graph.actions), 'node')}, worth {best.worth:.6f}")
         before, graph = graph, linker.linked(values)
         if watch.is_over() or np.array_equal(graph.successors, before.successors):
             break
-        values = evaluate(reach.arrays, graph, values, precision)
+        values = evaluated(reach, graph, values, precision, watch)
         found = candidate(reach, graph, values)
         idle = 0 if found.worth > best.worth else idle + 1
-        best = better(best, found)
+        best = better_candidate(best, found)
         if idle == IDLE_ROUNDS:
             break
     return best
 
 
-def graph_of_vectors(reach: Reach, policy: Policy, limits: Limits, watch: Watch) -> ArrayGraph:
+def graph_of_vectors(reach: Reach, policy: Policy, limits: GraphLimits, watch: Watch) -> ArrayGraph:
     """The best graph of a solver's vectors that is found: with a node for each vector, or for each of some beliefs; made better at the
     beliefs."""
     rough = ROUGH * max(1e-3, float(np.abs(policy.vectors).max()))
@@ -153,11 +151,13 @@ def graph_of_vectors(reach: Reach, policy: Policy, limits: Limits, watch: Watch)
     met = met_vectors(reach, policy, limits.nodes, limits.beliefs, watch)
     best, beliefs = linked_best(reach, links_of_vectors(reach, met, policy), limits.rounds, rough, watch), met.beliefs
     for size in unrolled_sizes(limits.nodes):
+        if watch.is_over():
+            break
         links = Unroller(reach, policy, size).run(watch)
         beliefs = sparse.vstack([met.beliefs, links.beliefs[: limits.points]], format="csr")
         found = linked_best(reach, links, limits.rounds, rough, watch)
         best = found if found.worth > best.worth + gain else best
-        if len(links.actions) < size or watch.is_over():
+        if len(links.actions) < size:
             break
     best = improved(Improver(reach, beliefs, gain), best, limits, rough, watch)
     return without_copies(best.graph, best.root)
@@ -191,7 +191,7 @@ class Improver:
         kept = found[np.sort(first)]
         return ArrayGraph(actions[kept], successors[kept])
 
-    def back_up(self, step: Step, values: Floats, found: Tuple[Floats, Integers, Integers]) -> None:
+    def back_up(self, step: BeliefStep, values: Floats, found: Tuple[Floats, Integers, Integers]) -> None:
         """Puts the action in at the beliefs at which it is worth more than what is found there."""
         (action, rows, after), (most, actions, successors), arrays = step, found, self.reach.arrays
         worth, best = best_of(after.joint, values)
@@ -205,22 +205,24 @@ class Improver:
             successors[rows[after.belief[is_chosen]], after.observation[is_chosen]] = best[is_chosen]
 
 
-def improved(improver: Improver, best: Candidate, limits: Limits, precision: float, watch: Watch) -> Candidate:
+def improved(improver: Improver, best: Candidate, limits: GraphLimits, precision: float, watch: Watch) -> Candidate:
     """Adds nodes that are worth more at the beliefs, and drops those that are not needed there any more: no belief gets worse."""
     reach, graph, values = improver.reach, best.graph, best.values
     for _ in range(limits.rounds):
+        if watch.is_over():
+            break
         new = improver.new_nodes(values)
         if not len(new.actions) or watch.is_over():
             break
         graph = ArrayGraph(*(np.concatenate(parts) for parts in zip(graph, new)))
         begin = np.concatenate([values, np.tile(values[best_of(reach.start, values)[1]], (len(new.actions), 1))])
-        values = evaluate(reach.arrays, graph, begin, precision)
+        values = evaluated(reach, graph, begin, precision, watch)
         found = candidate(reach, graph, values)
         small = without_copies(graph, found.root)
-        watch.report(f"{len(small.actions):,} nodes, worth {found.worth:.6f}")
+        watch.report(f"{quantity(len(small.actions), 'node')}, worth {found.worth:.6f}")
         if len(small.actions) > limits.nodes:
             break
-        best = better(best, found)
+        best = better_candidate(best, found)
         graph, values = needed(graph, values, improver.beliefs)
     return best
 

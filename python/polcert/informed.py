@@ -2,16 +2,15 @@
 
 Source: Hauskrecht, Value-function approximations for partially observable Markov decision processes, JAIR 2000.
 """
-import os
-import sys
 from typing import Callable, List, NamedTuple, Tuple
 
 import numpy as np
-from numpy.typing import NDArray
 from scipy import sparse
 
-from polcert.arrays import Arrays, Floats, Matrix
+from polcert.arrays import Arrays, Floats, Integers, Matrix, joint_cells
 from polcert.command import say
+from polcert.signals import program_name
+from polcert.stopping import IsOver, Stopping
 from polcert.tokens import MILLION
 from polcert.values import ROUNDS, TOLERANCE
 
@@ -31,7 +30,7 @@ class Joint(NamedTuple):
 
     rows: Matrix
     # the first row of each start state
-    begins: NDArray[np.int64]
+    begins: Integers
 
     def sums(self, values: Floats) -> Floats:
         """The sum of the values of the rows of each start state."""
@@ -40,14 +39,10 @@ class Joint(NamedTuple):
 
 def joint(transitions: Matrix, observing: Matrix) -> Joint:
     """The transitions of an action by what is observed."""
-    counts = np.diff(observing.indptr)[transitions.indices]
-    starts = np.repeat(np.repeat(np.arange(transitions.shape[0]), np.diff(transitions.indptr)), counts)
-    ends = np.repeat(transitions.indices, counts)
-    cells = np.repeat(observing.indptr[transitions.indices], counts) + np.arange(counts.sum()) - np.repeat(np.cumsum(counts) - counts, counts)
-    pairs, row = np.unique(starts * np.int64(observing.shape[1]) + observing.indices[cells], return_inverse=True)
-    weights = np.repeat(transitions.data, counts) * observing.data[cells]
-    rows = sparse.csr_matrix((weights, (row, ends)), shape=(len(pairs), transitions.shape[1]))
-    return Joint(rows, np.searchsorted(pairs, np.arange(transitions.shape[0]) * np.int64(observing.shape[1])))
+    pairs, ends, weights = joint_cells(transitions, observing)
+    found, row = np.unique(pairs, return_inverse=True)
+    rows = sparse.csr_matrix((weights, (row, ends)), shape=(len(found), transitions.shape[1]))
+    return Joint(rows, np.searchsorted(found, np.arange(transitions.shape[0]) * np.int64(observing.shape[1])))
 
 
 def products(arrays: Arrays) -> int:
@@ -77,27 +72,32 @@ def informed(arrays: Arrays) -> Backup:
     return backup
 
 
-def settle(backup: Backup, vectors: Floats, discount: float, tolerance: float, rounds: int) -> Tuple[Floats, float]:
-    """Backs vectors up until no value is further above the limit than the tolerance (and than rounding allows). Returns them, and how far
+def settle(backup: Backup, vectors: Floats, discount: float, stopping: Stopping) -> Tuple[Floats, float]:
+    """Backs vectors up until no value is further above the limit than is near enough (and than rounding allows). Returns them, and how far
     above it they may be.
 
     A constant is added in each round, so that no value of the next backup is greater: after any number of rounds they are a bound.
     """
     factor, above = discount / (1 - discount), float("inf")
-    for _ in range(rounds):
+    for _ in range(stopping.rounds):
+        if stopping.is_over():
+            break
         new = backup(vectors)
         moves = new - vectors
         spread = float(moves.max() - moves.min())
         vectors, above = new + factor * moves.max(), factor * spread
-        if above <= tolerance or spread <= 1e-14 * abs(vectors).max():
+        if above <= stopping.near or spread <= 1e-14 * abs(vectors).max():
             break
     return vectors, above
 
 
-def rounded_up(backup: Backup, vectors: Floats, rounds: int) -> Floats:
-    """The least vectors with six decimals, from the given ones rounded down on, of which no backup is greater, up to floating point."""
+def millionths_above_backups(backup: Backup, vectors: Floats, rounds: int, is_over: IsOver) -> Floats:
+    """The least vectors with six decimals, from the given ones rounded down on, of which no backup is greater, up to floating point. If that
+    takes more rounds, or it is over, those that are found so far."""
     values = np.floor(vectors * MILLION)
     for _ in range(rounds):
+        if is_over():
+            break
         new = np.maximum(values, np.ceil(backup(values / MILLION) * MILLION - NOISE))
         if np.array_equal(new, values):
             break
@@ -105,19 +105,21 @@ def rounded_up(backup: Backup, vectors: Floats, rounds: int) -> Floats:
     return np.asarray(values / MILLION)
 
 
-def informed_bound(arrays: Arrays, tolerance: float = TOLERANCE, rounds: int = ROUNDS) -> Tuple[Floats, float]:
-    """The vectors of the bound (A by S), with six decimals, and how far above their limit they may be. The discount has to be below 1."""
+def informed_bound(arrays: Arrays, stopping: Stopping = Stopping(TOLERANCE, ROUNDS)) -> Tuple[Floats, float]:
+    """The vectors of the bound (A by S), with six decimals, and how far above their limit they may be. They pass their check, or if it is over
+    early, raised by a constant. The discount has to be below 1."""
     backup, size = by_state(arrays), products(arrays)
-    vectors, above = settle(backup, np.zeros_like(arrays.rewards), arrays.discount, tolerance, rounds)
+    vectors, above = settle(backup, np.zeros_like(arrays.rewards), arrays.discount, stopping)
     if size <= MOST_PRODUCTS:
         backup = informed(arrays)
-        vectors, above = settle(backup, vectors, arrays.discount, tolerance, rounds)
+        vectors, above = settle(backup, vectors, arrays.discount, stopping)
     else:
-        say(f"{os.path.basename(sys.argv[0])}: {size:,} products of T and O are too many: this bounds policies that see the states, too")
-    return rounded_up(backup, vectors, max(1, min(rounds, MOST_ROUNDING // (size * len(vectors))))), above
+        say(f"{program_name()}: {size:,} products of T and O are too many: this bounds policies that see the states, too")
+    rounds = max(1, min(stopping.rounds, MOST_ROUNDING // (size * len(vectors))))
+    return millionths_above_backups(backup, vectors, rounds, stopping.is_over), above
 
 
-def observations_that_can_come(arrays: Arrays) -> List[NDArray[np.int64]]:
+def observations_that_can_come(arrays: Arrays) -> List[Integers]:
     """For each action the observations that can come from any state, in order."""
     found = []
     for transitions, observing in zip(arrays.transitions, arrays.observing):

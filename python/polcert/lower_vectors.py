@@ -4,13 +4,14 @@ Each vector has an action and, for each observation, the vector that follows. A 
 the other takes its place wherever it follows, so that no vector gets worse. So the vectors are at all times the nodes of a policy graph
 that is worth at least what they say.
 """
-from typing import Callable, List, Optional
+from typing import List, Optional
 
 import numpy as np
 
-from polcert.arrays import Arrays, Floats
-from polcert.belief_nodes import Batch, BeliefNode, BeliefNodes, BeliefStep, Integers
-from polcert.evaluation import ArrayGraph, Sweeper, evaluate
+from polcert.arrays import Arrays, Floats, Integers, rows_of_cells
+from polcert.belief_nodes import Batch, BeliefNode, BeliefNodes, BeliefStep
+from polcert.evaluation import ArrayGraph, Sweeper, evaluate_until, lowered
+from polcert.stopping import IsOver, Stopping
 
 # A vector has to be worth more than all others by this part of its size.
 LEAST_MOVE = 1e-10
@@ -21,9 +22,6 @@ SCREENED = 8
 ROUGH, ROUGH_SWEEPS = 1e-6, 500
 # Columns of dropped vectors are cleared away once they are this part of all.
 DROPPED_PART = 0.25
-
-# Tells whether the time is over.
-IsOver = Callable[[], bool]
 
 
 class LowerVectors:
@@ -109,7 +107,7 @@ class LowerVectors:
         observing = self.arrays.observing[action]
         columns = np.searchsorted(self._numbers[: self.count], successors)
         columns[columns == self.count] = 0  # (no such observation can come)
-        ends = np.repeat(np.arange(observing.shape[0]), np.diff(observing.indptr))
+        ends = rows_of_cells(observing)
         weighted = observing.data * self._table[ends, columns[observing.indices]]
         later = np.bincount(ends, weighted, observing.shape[0])
         return np.asarray(self.arrays.rewards[action] + self.arrays.discount * (self.arrays.transitions[action] @ later))
@@ -180,23 +178,22 @@ class LowerVectors:
         these successors, and returns True, if their graph is worth more from the start."""
         graph = self.graph()
         witnesses = [self._witnesses[number] for number in self._numbers[: self.count].tolist()]
-        values = self._from_below(graph, self.values())
+        values = self._from_below(graph, self.values(), is_over)
         successors = self._relinked(graph, values, witnesses, is_over)
         if successors is None:
             return False
         other = ArrayGraph(graph.actions, successors)
-        new = self._from_below(other, values)
+        new = self._from_below(other, values, is_over)
         before, after = (float((self.arrays.start @ it).max()) for it in (values, new))
         is_better = after > before + LEAST_MOVE * (1 + abs(before))
         self._take(*(other, new) if is_better else (graph, values))
         return is_better
 
-    def _from_below(self, graph: ArrayGraph, values: Floats) -> Floats:
+    def _from_below(self, graph: ArrayGraph, values: Floats, is_over: IsOver) -> Floats:
         """What a graph is worth, or a little less."""
-        discount = self.arrays.discount
-        worth = evaluate(self.arrays, graph, values.T, ROUGH * max(1e-3, float(abs(values).max())), ROUGH_SWEEPS)
-        above = max(0.0, float((worth - self._sweeper.sweep(graph, worth)).max()))
-        return np.ascontiguousarray((worth - above / (1 - discount)).T)
+        stopping = Stopping(ROUGH * max(1e-3, float(abs(values).max())), ROUGH_SWEEPS, is_over)
+        worth = evaluate_until(self.arrays, graph, values.T, stopping)[0]
+        return np.ascontiguousarray(lowered(self._sweeper, graph, worth).T)
 
     def _relinked(self, graph: ArrayGraph, values: Floats, witnesses: List[BeliefNode], is_over: IsOver) -> Optional[Integers]:
         """The successors that are worth most at the beliefs after each vector's own; None if the time is over before."""

@@ -9,24 +9,24 @@ _PART = re.compile(rb"\S+ ([0-9]{1,5})( seen)?")
 _FIRST_BYTES = 1_000_000
 
 
-class Part(NamedTuple):
+class StateVariable(NamedTuple):
     """A variable of the state: how many values it has, and whether it is seen."""
 
     size: int
     is_seen: bool
 
 
-def comment_of(names: Sequence[str], parts: Sequence[Part]) -> str:
+def comment_of(names: Sequence[str], parts: Sequence[StateVariable]) -> str:
     """The line that a converted model has."""
     words = (f"{name} {part.size}{' seen' if part.is_seen else ''}" for name, part in zip(names, parts))
     return f"{MARK} {', '.join(words)}".encode("ascii", "replace").decode()
 
 
-def parts_of(text: bytes) -> List[Part]:
+def parts_of(text: bytes) -> List[StateVariable]:
     """The variables that a text names; none if it was not converted."""
     line = _LINE.search(text, 0, _FIRST_BYTES)
     found = [_PART.fullmatch(part.strip()) for part in line[1].split(b",")] if line else []
-    return [Part(int(match[1]), match[2] is not None) for match in found if match]
+    return [StateVariable(int(match[1]), match[2] is not None) for match in found if match]
 
 
 def states_by_seen(text: bytes, states: int) -> List[List[int]]:

@@ -12,7 +12,7 @@ from fractions import Fraction
 from typing import Dict, Iterable, List, NamedTuple, Optional, Sequence, Tuple
 
 from polcert.files import (
-    BAD, END, MILLION, NAME, NUMERAL, SIGN, Cursor, FileError, Model, NumberFault, Row, Source, Token, number_after,
+    BAD, END, MILLION, NUMERAL, SIGN, Cursor, FileError, Model, NumberFault, Row, Source, Token, number_after,
 )
 from polcert.tokens import decimal
 
@@ -193,7 +193,7 @@ class PointCheck:
             for action in range(self.cells.actions):
                 excess = self.excess(point, action)
                 if excess > 0:
-                    return Excess(point, action, rounded_up(excess, MILLION))
+                    return Excess(point, action, ceil_quotient(excess, MILLION))
         return None
 
     def most_from_start(self) -> int:
@@ -202,11 +202,11 @@ class PointCheck:
         start, total = self.cells.start, sum(self.cells.start.values())
         if self.cells.is_mdp and not self.points.beliefs:
             best = {state: max(charge[state] for charge in self.charges) for state in start}
-            return rounded_up(sum(share * best[state] for state, share in start.items()), total)
+            return ceil_quotient(sum(share * best[state] for state, share in start.items()), total)
         scaled = {state: START_TIMES * share for state, share in start.items()}
         named = [None, *range(len(self.points.beliefs))]
         least = min(self.best_worth(cover_by(self.points, scaled, point)) for point in named)
-        return rounded_up(least, START_TIMES * total)
+        return ceil_quotient(least, START_TIMES * total)
 
 
 def check_points(cells: WholeCells, vectors: Vectors, points: Points) -> Optional[Excess]:
@@ -225,7 +225,7 @@ def check_vectors(cells: WholeCells, vectors: Vectors) -> Optional[Excess]:
         for state in range(cells.states):
             excess = informed_excess(cells, vectors, action, state)
             if excess > 0:
-                return Excess(state, action, rounded_up(excess, MILLION))
+                return Excess(state, action, ceil_quotient(excess, MILLION))
     return None
 
 
@@ -233,7 +233,7 @@ def least_raise(cells: WholeCells, vectors: Vectors) -> int:
     """The least constant that raises vectors to informed ones, in millionths. The discount has to be below 1."""
     pairs = ((action, state) for action in range(cells.actions) for state in range(cells.states))
     worst = max(informed_excess(cells, vectors, action, state) for action, state in pairs)
-    return max(0, rounded_up(worst, cells.step_scale * (MILLION - cells.discount)))
+    return max(0, ceil_quotient(worst, cells.step_scale * (MILLION - cells.discount)))
 
 
 def informed_excess(cells: WholeCells, vectors: Vectors, action: int, state: int) -> int:
@@ -245,7 +245,7 @@ def informed_excess(cells: WholeCells, vectors: Vectors, action: int, state: int
     return MILLION * cells.reward(action, state) + cells.discount * later - MILLION * cells.step_scale * vectors[action][state]
 
 
-def rounded_up(value: int, scale: int) -> int:
+def ceil_quotient(value: int, scale: int) -> int:
     return -(-value // scale)
 
 
@@ -351,7 +351,7 @@ class _PointReader:
         if self.cursor.next.kind != NUMERAL:
             raise self.unexpected(expected, begin)
         value = self.number(begin, sign)
-        return rounded_up(value.numerator * MILLION, value.denominator)
+        return ceil_quotient(value.numerator * MILLION, value.denominator)
 
     def number(self, begin: int, sign: Optional[Token]) -> Fraction:
         try:
@@ -371,17 +371,11 @@ class _PointReader:
         return found
 
     def name(self, expected: str) -> Optional[int]:
-        token = self.cursor.next
-        is_none = token.kind == NAME and token.text == b"X" or token.text == b"-" and not self.is_sign(token)
+        token, is_none = self.cursor.next, self.cursor.is_at_none()
         if not is_none and not token.is_digits():
             raise self.unexpected(expected)
         self.cursor.take()
         return None if is_none else int(token.text)
-
-    def is_sign(self, token: Token) -> bool:
-        """Whether a numeral stands directly after a `-`."""
-        after = self.cursor.after_next()
-        return after.kind == NUMERAL and after.begin == token.end
 
     def refuse_missing_points(self) -> None:
         """Refuses a name of no point: the first by point, action and observation."""

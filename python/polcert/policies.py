@@ -10,8 +10,8 @@ from typing import Deque, Dict, Iterator, List, NamedTuple, Optional, Sequence, 
 from polcert.files import END, NAME, NUMERAL, Cursor, FileError, Graph, Model, Source, read_vectors
 from polcert.observability import states_by_seen
 from polcert.tables import Elements
-from polcert.tokens import LARGEST, quoted, whole_number
-from polcert.xml_parser import XmlParser
+from polcert.tokens import LARGEST, Token, quoted, whole_number
+from polcert.xml_parser import XmlParser, is_xml
 
 _NUMBER = re.compile(r"[+-]?(?:[0-9]+\.?[0-9]*|\.[0-9]+)(?:[eE][+-]?[0-9]+)?")
 _STEP_END = re.compile(rb"^[ \t]*@[ \t\r]*$", re.M)
@@ -32,6 +32,9 @@ class Solved(NamedTuple):
     values: List[float]
 
 
+GraphOrVectors = Union[Graph, List[Solved]]
+
+
 class Word(NamedTuple):
     """A word of a text and its first byte."""
 
@@ -39,26 +42,30 @@ class Word(NamedTuple):
     text: str
 
 
-def is_xml(source: Source) -> bool:
-    return source.text.lstrip(b"\xef\xbb\xbf \t\r\n").startswith(b"<")
+def rewards_of(model: Model) -> Iterator[Fraction]:
+    """The numbers that entries of R give, costs as rewards below 0: each reward is one of these, or 0."""
+    sign = -1 if model.is_cost else 1
+    return (sign * value for entry in model.entries if entry.table == "R" for value in entry.numbers.values)
 
 
-def read_solved(source: Source, model: Model) -> Union[Graph, List[Solved]]:
-    """What a solver wrote: a graph, if the text is a table of nodes, else vectors. Raises FileError; never answers no vector at all."""
+def read_solved(source: Source, model: Model, are_costs: bool = False) -> GraphOrVectors:
+    """What a solver wrote: a graph, if the text is a table of nodes, else vectors, whose numbers are negated if they are costs. Raises
+    FileError; never answers no vector at all."""
+    sign = -1 if are_costs else 1
     if is_xml(source):
-        return _PolicyReader(source, model).read()
+        return _PolicyReader(source, model, sign).read()
     if _STEP_END.search(source.text):
-        return _StepsReader(source, model).read()
+        return _StepsReader(source, model, sign).read()
     if is_table(source):
-        return _TableReader(source, model).read()
-    return [Solved(vector.action, [float(value) for value in vector.values]) for vector in read_vectors(source, model)]
+        return _TableReader(source, model, sign).read()
+    return [Solved(vector.action, [sign * float(value) for value in vector.values]) for vector in read_vectors(source, model)]
 
 
 class _Reader:
     """What the readers of policies share."""
 
-    def __init__(self, source: Source, model: Model) -> None:
-        self.source, self.model = source, model
+    def __init__(self, source: Source, model: Model, sign: int) -> None:
+        self.source, self.model, self.sign = source, model, sign
 
     def fault(self, byte: int, why: str) -> FileError:
         return FileError(self.source, "", byte, why)
@@ -73,7 +80,7 @@ class _Reader:
     def number(self, word: Word) -> float:
         if not _NUMBER.fullmatch(word.text) or not isfinite(float(word.text)):
             raise self.fault(word.begin, f"expected a number, found {quoted(word.text)}")
-        return float(word.text)
+        return self.sign * float(word.text)
 
 
 class _SeenVector(NamedTuple):
@@ -88,8 +95,8 @@ class _PolicyReader(_Reader, XmlParser):
     """Reads the `<Vector>` and `<SparseVector>` elements of SARSOP's policy. A vector of mixed observability is over the states with the seen
     values that it names, in a model that polcert-convert wrote."""
 
-    def __init__(self, source: Source, model: Model) -> None:
-        _Reader.__init__(self, source, model)
+    def __init__(self, source: Source, model: Model, sign: int) -> None:
+        _Reader.__init__(self, source, model, sign)
         XmlParser.__init__(self, source, "policy")
         self.states = states_by_seen(model.source.text, model.states.count)
         self.found: List[_SeenVector] = []
@@ -148,9 +155,7 @@ class _PolicyReader(_Reader, XmlParser):
         """Less than any policy earns and any vector says: what a vector is worth where its seen values are not."""
         model, least = self.model, min(min(vector.values) for vector in self.found)
         if model.discount < 1:
-            sign = -1 if model.is_cost else 1
-            rewards = (sign * value for entry in model.entries if entry.table == "R" for value in entry.numbers.values)
-            least = min(least, float(min(rewards, default=Fraction(0)) / (1 - model.discount)))
+            least = min(least, float(min(rewards_of(model), default=Fraction(0)) / (1 - model.discount)))
         return max(least - 1, -float(LARGEST))
 
     def over_all_states(self, vector: _SeenVector, low: float) -> Solved:
@@ -232,8 +237,8 @@ class _TableReader(_Reader):
     """Reads a data frame of R's `pomdp`: nodes (`node`, `action`, a column for each observation) or vectors (a column for each state,
     `action`). The nodes are numbered from 1, and a number of the row may stand first."""
 
-    def __init__(self, source: Source, model: Model) -> None:
-        super().__init__(source, model)
+    def __init__(self, source: Source, model: Model, sign: int) -> None:
+        super().__init__(source, model, sign)
         self.columns = [word for word in next(table_lines(source)) if word.text]
         self.count = sum(1 for _ in self.rows())
         self.at_action = [word.text for word in self.columns].index("action")
@@ -302,13 +307,34 @@ class _TableReader(_Reader):
         return Solved(self.action(cells[-1]), [self.number(word) for word in cells[:-1]])
 
 
+def is_action_word(token: Token) -> bool:
+    return token.is_digits() or token.kind == NAME
+
+
 def is_policy_of_mdp(source: Source, model: Model) -> bool:
     """Whether a text has as many names and numbers as an MDP has states, and no others: an action for each state."""
     cursor, count = Cursor(source), 0
-    while model.is_mdp and (cursor.next.is_digits() or cursor.next.kind == NAME):
+    while model.is_mdp and is_action_word(cursor.next):
         cursor.take()
         count += 1
     return model.is_mdp and cursor.next.kind == END and count == model.states.count
+
+
+def fault_of_action_count(source: Source, model: Model) -> Optional[FileError]:
+    """The fault of a list of an MDP's actions that are not as many as its states. None if a text is surely no such list: one of numbers alone
+    is taken for one only if it is too short for a vector."""
+    cursor, actions, states = Cursor(source), model.actions, model.states.count
+    count, first_surplus, has_name, are_numbers = 0, 0, False, True
+    while model.is_mdp and is_action_word(cursor.next):
+        word = cursor.take()
+        has_name = has_name or word.text in actions.index_of
+        are_numbers = are_numbers and word.kind != NAME and int(word.text) < actions.count
+        first_surplus = word.begin if count == states else first_surplus
+        count += 1
+    if cursor.next.kind != END or not (has_name or are_numbers and 0 < count < states):
+        return None
+    byte = first_surplus if count > states else cursor.next.begin
+    return FileError(source, "", byte, f"expected an action for each state of the model, which are {states}, found {count}")
 
 
 def read_policy_of_mdp(source: Source, model: Model) -> List[int]:

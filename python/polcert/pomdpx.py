@@ -7,7 +7,7 @@ from typing import Dict, List, NamedTuple, Sequence
 from polcert.factored import Function, Values, Variable, number_of
 from polcert.files import LIMITS, MOST_PAIRS, Source
 from polcert.tokens import quoted, whole_number
-from polcert.xml_parser import Element, read_tree, tag
+from polcert.xml_parser import Element, is_xml, read_tree, tag
 
 _ROOT = re.compile(rb"<pomdpx\b")
 # Of XML so many bytes are looked at for its first element.
@@ -52,8 +52,8 @@ class Factored:
 
 
 def is_pomdpx(source: Source) -> bool:
-    head = source.text[:_HEAD_BYTES]
-    return head.lstrip(b"\xef\xbb\xbf \t\r\n").startswith(b"<") and _ROOT.search(head) is not None
+    """Tells whether a text is XML with `<pomdpx` among its first bytes. (Names of XML are case-sensitive.)"""
+    return is_xml(source) and _ROOT.search(source.text, 0, _HEAD_BYTES) is not None
 
 
 def count_of(variables: Sequence[Variable]) -> int:
@@ -62,10 +62,10 @@ def count_of(variables: Sequence[Variable]) -> int:
 
 def read_pomdpx(source: Source) -> Factored:
     """Reads a model. Raises FileError, with the place."""
-    return _Reader(source).read()
+    return _PomdpxReader(source).read()
 
 
-class _Reader:
+class _PomdpxReader:
     def __init__(self, source: Source) -> None:
         self.model = Factored(source)
         self.names: Dict[str, Variable] = {}

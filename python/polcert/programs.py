@@ -19,6 +19,7 @@ from polcert.answers import EveryModel, Moved, No, Refused, Summary, Yes, every_
 
 Text = Union[str, bytes, "os.PathLike[str]"]
 Answer = TypeVar("Answer")
+_TO_BUILD = "build it by `make run` or `make program` in polcert's folder, and put its folder on the path, or name it with --programs"
 
 
 class ProgramError(Exception):
@@ -79,7 +80,7 @@ def found(program: str) -> str:
     """The path of a program. Raises ProgramError if there is none."""
     path = shutil.which(program)
     if path is None:
-        raise ProgramError(f"{program}: there is no such program on the path")
+        raise ProgramError(f"{program}: there is no such program{'' if os.path.dirname(program) else ' on the path'}: {_TO_BUILD}")
     return path
 
 
@@ -124,8 +125,11 @@ def _name(path: Union[str, "os.PathLike[str]"]) -> str:
 
 
 def _written(text: bytes, name: str) -> str:
-    with open(name, "wb") as file:
-        file.write(text)
+    try:
+        with open(name, "wb") as file:
+            file.write(text)
+    except OSError as fault:
+        raise OSError(fault.errno, fault.strerror, name) from None  # (one of a full disk names no file)
     return name
 
 

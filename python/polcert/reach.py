@@ -5,8 +5,7 @@ from typing import Any, Dict, Iterator, List, NamedTuple, Sequence, Set, Tuple
 import numpy as np
 from scipy import sparse
 
-from polcert.arrays import Arrays, Floats, Matrix
-from polcert.evaluation import Integers
+from polcert.arrays import Arrays, Floats, Integers, Matrix, SparseRow, joint_cells, stacked
 from polcert.policies import Solved
 from polcert.watch import Watch
 
@@ -47,16 +46,10 @@ class Reach:
 
     def after(self, action: int, beliefs: Matrix) -> After:
         """What follows an action at some beliefs, by Bayes' rule."""
-        moved, observing = beliefs @ self.arrays.transitions[action], self.arrays.observing[action]
-        begins, counts = observing.indptr[moved.indices], np.diff(observing.indptr)[moved.indices]
-        cells = np.repeat(begins - np.cumsum(counts) + counts, counts) + np.arange(counts.sum())
-        number = np.repeat(np.arange(moved.shape[0], dtype=np.int64), np.diff(moved.indptr))
-        rows = np.repeat(number, counts) * self.observations + observing.indices[cells]
-        weights = np.repeat(moved.data, counts) * observing.data[cells]
+        pairs, ends, weights = joint_cells(beliefs @ self.arrays.transitions[action], self.arrays.observing[action])
         is_there = weights > 0
-        found, places = np.unique(rows[is_there], return_inverse=True)
-        ends = np.repeat(moved.indices, counts)[is_there]
-        joint = sparse.csr_matrix((weights[is_there], (places, ends)), shape=(len(found), self.states))
+        found, places = np.unique(pairs[is_there], return_inverse=True)
+        joint = sparse.csr_matrix((weights[is_there], (places, ends[is_there])), shape=(len(found), self.states))
         return After(found // self.observations, found % self.observations, joint)
 
     def anywhere(self, action: int) -> After:
@@ -86,7 +79,7 @@ def best_of(beliefs: Matrix, values: Floats) -> Tuple[Floats, Integers]:
     return most, best
 
 
-class Step(NamedTuple):
+class BeliefStep(NamedTuple):
     """An action at some rows of a matrix of beliefs, and what follows it there."""
 
     action: int
@@ -100,13 +93,13 @@ class Ahead:
     def __init__(self, reach: Reach, beliefs: Matrix, rows: Sequence[Tuple[int, Integers]]) -> None:
         self.reach, self.beliefs = reach, beliefs
         self.blocks = [(action, block) for action, numbers in rows for block in reach.blocks(action, numbers)]
-        self._kept: List[Step] = []
+        self._kept: List[BeliefStep] = []
         self._size = 0
 
-    def __iter__(self) -> Iterator[Step]:
+    def __iter__(self) -> Iterator[BeliefStep]:
         yield from self._kept
         for action, block in self.blocks[len(self._kept) :]:
-            step = Step(action, block, self.reach.after(action, self.beliefs[block]))
+            step = BeliefStep(action, block, self.reach.after(action, self.beliefs[block]))
             self._size += step.after.joint.nnz
             if self._size <= KEPT_NUMBERS:
                 self._kept.append(step)
@@ -114,14 +107,7 @@ class Ahead:
 
 
 # A belief of the frontier: its states and weights.
-Point = Tuple[Integers, Floats]
-
-
-def stacked(points: Sequence[Point], states: int) -> Matrix:
-    """Beliefs as the rows of a matrix."""
-    begins = np.cumsum([0, *(len(places) for places, _ in points)])
-    parts = np.concatenate([weights for _, weights in points]), np.concatenate([places for places, _ in points]), begins
-    return sparse.csr_matrix(parts, shape=(len(points), states))
+Point = SparseRow
 
 
 class Follower(NamedTuple):

@@ -7,8 +7,8 @@ from typing import Any, Dict, List, Tuple
 import numpy as np
 from numpy.typing import NDArray
 
-from polcert.arrays import Floats
-from polcert.belief_nodes import Batch, BeliefNode, Integers
+from polcert.arrays import Floats, Integers, numbers_from
+from polcert.belief_nodes import Batch, BeliefNode
 
 # A value has to fall by more than this part of its size.
 LEAST_MOVE = 1e-10
@@ -70,11 +70,10 @@ class PointRows:
         """How often points fit into beliefs, of which a column has the weight of each state: a row for each point."""
         begins = self.begins.all[rows]
         sizes = self.begins.all[rows + 1] - begins
-        ends = np.cumsum(sizes)
-        cells = np.arange(ends[-1]) + np.repeat(begins - (ends - sizes), sizes)
+        cells = numbers_from(begins, sizes)
         times = weights[self.states.all[cells]]
         times *= self.inverses.all[cells, None]
-        return np.asarray(np.minimum.reduceat(times, ends - sizes))
+        return np.asarray(np.minimum.reduceat(times, np.cumsum(sizes) - sizes))
 
 
 class Sawtooth:
@@ -157,10 +156,6 @@ class Sawtooth:
     def value(self, node: BeliefNode) -> float:
         self.look(node.own)
         return float(node.own.high[0])
-
-    def plain_values(self, node: BeliefNode) -> Floats:
-        """What each action is worth at most at a belief by the lowered vectors alone."""
-        return np.asarray(self.charges[:, node.own.states] @ node.own.weights[:, 0])
 
     def lower(self, node: BeliefNode, values: Floats) -> None:
         """Lowers the values of the actions at a belief, and with that the bound at all beliefs that it covers. A corner is lowered later."""

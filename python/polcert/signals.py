@@ -1,4 +1,4 @@
-"""Ends a script that is interrupted or terminated: one line, none of the files that it has begun, and the status that a shell gives.
+"""Ends a script that is interrupted or terminated: one line, none of the files that it has begun, and the status that a shell gives (130, 143).
 
 A script of this folder imports this module before all others, so that this holds while it still imports those.
 """
@@ -14,11 +14,16 @@ _WORDS = {signal.SIGINT: "interrupted", signal.SIGTERM: "terminated"}
 unfinished: List[str] = []
 
 
+def program_name() -> str:
+    """The name by which the script was called."""
+    return os.path.basename(sys.argv[0])
+
+
 def _end(number: int, _: Optional[FrameType]) -> None:
     for path in list(unfinished):
         remove(path)
     try:
-        os.write(2, f"{os.path.basename(sys.argv[0])}: {_WORDS[signal.Signals(number)]}\n".encode())
+        os.write(2, f"{program_name()}: {_WORDS[signal.Signals(number)]}\n".encode())
     except OSError:
         pass
     os._exit(128 + number)
@@ -50,7 +55,7 @@ def held_back() -> Iterator[None]:
 
 
 class Interrupt:
-    """Takes note of the first interrupt of a run, in place of ending the script. The second one ends it, whoever asked for the first."""
+    """Takes note of the first interrupt of a run, in place of ending the script. The second one ends it. All objects share the first."""
 
     _is_noted = False
 
@@ -65,6 +70,10 @@ class Interrupt:
     def _note(self, number: int, _: Optional[FrameType]) -> None:
         Interrupt._is_noted = True
         signal.signal(number, _end)
+        try:
+            os.write(2, f"{program_name()}: ending early; a second interrupt ends it at once\n".encode())
+        except OSError:
+            pass
 
 
 def end_at_interrupts() -> None:
@@ -80,7 +89,7 @@ def ignore() -> None:
             signal.signal(number, signal.SIG_IGN)
 
 
-if os.path.basename(sys.argv[0]).startswith("polcert-"):
+if program_name().startswith("polcert-"):
     for _number in _WORDS:
         if signal.getsignal(_number) in (signal.SIG_DFL, signal.default_int_handler):
             signal.signal(_number, _end)

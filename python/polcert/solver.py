@@ -13,8 +13,9 @@ from polcert.arrays import Arrays, Floats
 from polcert.belief_nodes import BeliefNode, BeliefNodes
 from polcert.covers import CoverGraph
 from polcert.files import MOST_NODES
-from polcert.lower_vectors import IsOver, LowerVectors
+from polcert.lower_vectors import LowerVectors
 from polcert.sawtooth import Sawtooth
+from polcert.stopping import IsOver
 
 # A trial adds at most so many vectors.
 MOST_DEPTH = 300

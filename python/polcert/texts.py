@@ -8,6 +8,7 @@ from typing import Any, Iterator, List, Sequence, Tuple, Union
 Array = Any
 
 
+# (Seven parameters: the parts of a model, and how it is mended.)
 def model_text(
     transitions: Array, observations: Array, rewards: Array, discount: float, *,
     start: Array = None, is_cost: bool = False, within: Union[str, Fraction, None] = None,
@@ -92,7 +93,7 @@ def _cells(part: Array, place: Tuple[int, ...] = ()) -> Iterator[Tuple[Tuple[int
 
 def _mended(text: bytes, within: Fraction) -> bytes:
     from polcert.command import Refusal  # (which with the mender takes longer to import than all else here)
-    from polcert.commands.mend import mended
+    from polcert.mending import mended
     from polcert.tokens import FileError, Source
 
     try:

@@ -60,6 +60,11 @@ def quoted(text: str) -> str:
     return f"`{text if len(text) <= 40 else text[:37] + '...'}`"
 
 
+def quantity(number: int, noun: str) -> str:
+    """How many there are of something that has a plural in -s: `1 node`, `2,000 nodes`."""
+    return f"{number:,} {noun}{'' if number == 1 else 's'}"
+
+
 def whole_number(text: str) -> Optional[int]:
     """The number that digits give, or None if there are others than digits. One that is too long for a token is greater than any count."""
     if not (text.isascii() and text.isdigit()):
@@ -71,6 +76,11 @@ def whole_number(text: str) -> Optional[int]:
 def printable(text: str) -> str:
     """The text on one line: what cannot be shown is escaped."""
     return text if text.isprintable() else "".join(sign if sign.isprintable() else _escaped(sign) for sign in text)
+
+
+def table_cell(text: str) -> str:
+    """The text in a cell of a Markdown table, with escapes for what would end the cell, a name in backquotes or the line."""
+    return printable("".join(f"\\x{ord(sign):02x}" if sign in "\\`|" else sign for sign in text))
 
 
 def _escaped(sign: str) -> str:
@@ -163,6 +173,13 @@ class Cursor:
         """The token after the next one."""
         return token_at(self.source.text, self.next.end)
 
+    def is_at_none(self) -> bool:
+        """Tells whether the next token says that there is no node or point: `X`, or a `-` that is no sign of a numeral directly after it."""
+        if self.next.kind != SIGN or self.next.text != b"-":
+            return self.next.kind == NAME and self.next.text == b"X"
+        after = self.after_next()
+        return after.kind != NUMERAL or after.begin != self.next.end
+
 
 class NumberFault(Exception):
     """A numeral that is no number of a file: N2, N3 or N4."""
@@ -224,6 +241,11 @@ def decimal(millionths: int) -> str:
     """A whole number of millionths as polcert writes it: 250000 is `0.25`."""
     sign, size = ("-" if millionths < 0 else ""), abs(millionths)
     return sign + f"{size // MILLION}.{size % MILLION:06}".rstrip("0").rstrip(".")
+
+
+def six_decimals(value: Fraction) -> str:
+    """A value of the programs' lines, which has at most six decimals, as polcert writes it."""
+    return decimal(int(value * MILLION))
 
 
 def number_after(cursor: Cursor, sign: Optional[Token]) -> Tuple[Fraction, Token]:

@@ -1,6 +1,6 @@
 """Values of nodes and vectors as texts, and the discounts with which there are none."""
 from math import isfinite
-from typing import Any, Callable, Iterable, Iterator, List
+from typing import Callable, Iterable, List
 
 from polcert.command import Refusal
 from polcert.files import FileError, Graph, Model
@@ -11,36 +11,28 @@ LARGEST_VALUE = 10_000_000.0
 TOLERANCE, ROUNDS = 1e-7, 100_000
 
 
-def each(rows: Iterable[Any], convert: Callable[[Any], Any]) -> Iterator[Any]:
-    """What each row is converted to. Rows that follow one another and are one object are converted once."""
-    last, made = None, None
-    for row in rows:
-        if row is not last:
-            last, made = row, convert(row)
-        yield made
-
-
 def refuse_undiscounted(model: Model) -> None:
-    """Raises FileError if the discount is 1."""
+    """Raises FileError if the discount is 1, with which the values of nodes are not found here."""
     if model.discount == 1:
         why = "the discount is 1, and what a graph is worth is found here only for a discount below 1"
         raise FileError(model.source, "", model.discount_token.begin, why)
 
 
 def refuse_discount_of_1(model: Model) -> None:
-    """Raises FileError if the discount is 1."""
+    """Raises FileError if the discount is 1, with which vectors are not raised to a bound."""
     if model.discount == 1:
         why = "the discount is 1, so that no constant raises vectors to a bound: take a discount just below 1"
         raise FileError(model.source, "", model.discount_token.begin, why)
 
 
-def vectors_text(actions: Iterable[int], worth: Iterable[Values]) -> bytes:
-    """Vectors as solvers write them: six decimals."""
+def vectors_text(actions: Iterable[int], worth: Iterable[Values], written: Callable[[float], str] = "{:.6f}".format) -> bytes:
+    """Vectors as solvers write them: with six decimals, or with each value as `written` gives it. Raises Refusal if polcert does not read a
+    value."""
     lines: List[str] = []
     for action, values in zip(actions, worth):
         if not all(isfinite(value) and abs(value) <= LARGEST_VALUE for value in values):
             raise Refusal("a value is beyond 10,000,000, which polcert does not read: scale the rewards down")
-        lines += [str(action), " ".join(f"{value:.6f}" for value in values), ""]
+        lines += [str(action), " ".join(map(written, values)), ""]
     return ("\n".join(lines) + "\n").encode()
 
 

@@ -4,19 +4,17 @@ Each vector is a node, with its own values. A vector is *backed* if it has a suc
 values are at most the worth of one step, in every state. Rounded vectors are short by a little: `polcert lower` takes a constant off.
 """
 from itertools import islice, product
-from math import isfinite
-from typing import Dict, Iterable, Iterator, List, NamedTuple, Optional, Sequence, Tuple
+from typing import Dict, Iterator, List, NamedTuple, Optional, Sequence, Tuple
 
 import numpy as np
 from scipy import sparse
 
-from polcert.arrays import Floats, Matrix
+from polcert.arrays import Floats, Integers, Matrix, stacked
 from polcert.command import Refusal
-from polcert.evaluation import ActionBackup, Integers
+from polcert.evaluation import ActionBackup
 from polcert.files import Graph
 from polcert.policies import Solved
-from polcert.reach import Point, Reach, best_of, followed, policy_of, stacked
-from polcert.values import LARGEST_VALUE
+from polcert.reach import Point, Reach, best_of, followed, policy_of
 from polcert.watch import Watch
 
 # By how much a vector may be short of one step, if nothing else is said: this part of the greatest value.
@@ -182,13 +180,3 @@ def beliefs_between(states: int) -> Iterator[Point]:
     for part, state, other in product((0.5, 0.75), range(states), range(states)):
         if state != other:
             yield np.array([state, other]), np.array([part, 1 - part])
-
-
-def own_vectors_text(vectors: Iterable[Solved]) -> bytes:
-    """Vectors with all digits of their values, which polcert rounds down as it reads them."""
-    lines: List[str] = []
-    for action, values in vectors:
-        if not all(isfinite(value) and abs(value) <= LARGEST_VALUE for value in values):
-            raise Refusal("a value is beyond 10,000,000, which polcert does not read: scale the rewards down")
-        lines += [str(action), " ".join(map(repr, values)), ""]
-    return ("\n".join(lines) + "\n").encode()

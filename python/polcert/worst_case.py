@@ -13,12 +13,13 @@ import numpy as np
 from numpy.typing import NDArray
 from scipy import sparse
 
-from polcert.arrays import Arrays, Floats, Matrix, arrays_of, blocks_of_rewards
+from polcert.arrays import Arrays, Floats, Integers, Matrix, arrays_of, blocks_of_rewards, cells_of_row
 from polcert.command import Refusal
 from polcert.distances import Distances, Spread, spread_at
-from polcert.evaluation import BLOCK_NUMBERS, MOST_SOLVING, MOST_SWEEPS, ROUNDING, ArrayGraph, Integers, array_graph, evaluate, nearly_solved
+from polcert.evaluation import BLOCK_NUMBERS, MOST_SOLVING, MOST_SWEEPS, ROUNDING, ArrayGraph, array_graph, evaluate, nearly_solved
 from polcert.files import Graph, Model
 from polcert.points import WholeCells
+from polcert.stopping import Stopping
 from polcert.tables import RewardBlock
 from polcert.tokens import MILLION
 from polcert.watch import Watch
@@ -58,7 +59,7 @@ def worst_model(model: Model, near: Distances) -> WorstModel:
 # One step, in floating point
 
 
-class Part(NamedTuple):
+class StartStates(NamedTuple):
     """Start states of an action for which each observation is rewarded in the same way."""
 
     states: Integers
@@ -92,7 +93,7 @@ class WorstAction:
         rewards = [numbers for part in self.parts for numbers in (part.of_ends, part.of_seen) if numbers is not None]
         self.largest = max(float(abs(numbers).max()) for numbers in rewards)
 
-    def _parts(self, observing: Matrix) -> Iterator[Part]:
+    def _parts(self, observing: Matrix) -> Iterator[StartStates]:
         """Those where the observation matters one by one, and all others together."""
         moves, plain, earned = self._worst.arrays.transitions[self._action], [], []
         for block, states in blocks_of_rewards(self._worst.cells.model, self._action):
@@ -107,15 +108,15 @@ class WorstAction:
             states = np.concatenate(plain)
             yield self._part(states, moves[states], np.concatenate(earned), None)
 
-    def _part(self, states: Integers, rows: Matrix, of_ends: Floats, of_seen: Optional[Floats]) -> Part:
+    def _part(self, states: Integers, rows: Matrix, of_ends: Floats, of_seen: Optional[Floats]) -> StartStates:
         moves = RowsNear(rows, self._worst.t_by, self._worst.cells.t_scale)
-        return Part(states, moves, of_ends - self._worst.r_by / MILLION, of_seen)
+        return StartStates(states, moves, of_ends - self._worst.r_by / MILLION, of_seen)
 
     def _rewards(self, block: RewardBlock, reached: Sequence[int], observing: Matrix) -> Tuple[Floats, Optional[Floats]]:
         """What is earned by end state, and by cell of O if the observation matters."""
         by_end, by_cell, is_plain = np.zeros(self.states), np.zeros(observing.nnz), True
         for end in reached:
-            row, constant = slice(observing.indptr[end], observing.indptr[end + 1]), block.constant(end)
+            row, constant = cells_of_row(observing, end), block.constant(end)
             numbers = [block.at(end, z) for z in observing.indices[row].tolist()] if constant is None else [constant]
             is_plain = is_plain and len(set(numbers)) == 1
             by_end[end] = self._worst.sign * float(numbers[0])
@@ -196,15 +197,15 @@ class WorstSweeper:
 
 def worst_case(sweeper: WorstSweeper, values: Floats, watch: Watch) -> Floats:
     """What each node is worth in the worst case (N by S), from given values on. The rows that are worst for values are held until the values
-    are solved for them (policy iteration, of the opponent). Raises Refusal if the values do not settle."""
+    are solved for them (policy iteration, of the opponent). Ends early if the watch is over. Raises Refusal if the values do not settle."""
     least = PRECISION * (1 - sweeper.worst.arrays.discount)
     for sweeps in range(MOST_SWEEPS):
         new, step = sweeper.with_rows_held(values) if sweeper.is_held and sweeps < MOST_ROUNDS else (sweeper.sweep(values), None)
         moved = float(abs(new - values).max())
-        if moved <= least + ROUNDING * float(abs(values).max()):
+        if moved <= least + ROUNDING * float(abs(values).max()) or watch.is_over():
             return new
         watch.report(f"sweep {sweeps + 1:,} moved a value by {moved:.3g}")
-        values = new if step is None else nearly_solved(step, values, least, MOST_SOLVING)
+        values = new if step is None else nearly_solved(step, values, Stopping(least, MOST_SOLVING, watch.is_over))
     raise Refusal("what the graph is worth in the worst case does not settle")
 
 
@@ -217,14 +218,14 @@ class PairCheck:
     def __init__(self, worst: WorstModel, graph: ArrayGraph) -> None:
         self._worst, self._graph = worst, graph
 
-    def passes(self, node: int, state: int, values: NDArray[np.int64]) -> bool:
+    def passes(self, node: int, state: int, values: Integers) -> bool:
         """Whether a value, of vectors in millionths, is at most what backs it in the worst case."""
         worst, cells, action = self._worst, self._worst.cells, int(self._graph.actions[node])
         moves, block = cells.moves(action, state), cells.model.rewards.of(action, state)
         means = [self._mean(node, end, block, values) for end, _ in moves]
         return int(values[node, state]) * MILLION * cells.step_scale <= least_mean(moves, cells.t_scale, worst.t_by, means)
 
-    def _mean(self, node: int, end: int, block: RewardBlock, values: NDArray[np.int64]) -> int:
+    def _mean(self, node: int, end: int, block: RewardBlock, values: Integers) -> int:
         worst, cells, constant = self._worst, self._worst.cells, block.constant(end)
         seen = cells.seen(int(self._graph.actions[node]), end)
         numbers = []
@@ -236,12 +237,13 @@ class PairCheck:
 
 
 def rounded_down(sweeper: WorstSweeper, values: Floats, watch: Watch) -> Floats:
-    """The greatest vectors in millionths that pass the check, from values of the worst case. If rounding does not end, one constant less."""
+    """The greatest vectors in millionths that pass the check, from values of the worst case. If rounding does not end, or the watch is over, one
+    constant less."""
     check, found = PairCheck(sweeper.worst, sweeper.graph), np.asarray(np.ceil(values * MILLION))
     largest = max(action.largest for action in sweeper.actions.values()) * MILLION + float(abs(found).max())
     noise = ERROR * (8 + max(action.longest for action in sweeper.actions.values())) * largest
     if sweeper.is_held:  # (rows that are held are cheaper, and promise no less than the worst ones)
-        found = settled(sweeper.with_rows_held(values)[1], found, noise)
+        found = settled(sweeper.with_rows_held(values)[1], found, noise, watch)
     for _ in range(MOST_ROUNDING):
         worth = sweeper.sweep(found / MILLION) * MILLION
         watch.report("rounding values down")
@@ -252,15 +254,17 @@ def rounded_down(sweeper: WorstSweeper, values: Floats, watch: Watch) -> Floats:
                 return found
             new[tuple(np.array(short).T)] -= 1
         found = new
+        if watch.is_over():
+            break
     lack = float((found - sweeper.sweep(found / MILLION) * MILLION).max()) + noise
     return np.asarray(found - ceil(lack / (1 - sweeper.worst.arrays.discount)))
 
 
-def settled(step: Step, found: Floats, noise: float) -> Floats:
+def settled(step: Step, found: Floats, noise: float, watch: Watch) -> Floats:
     """The greatest vectors in millionths that a step does not take lower, or what so many steps leave."""
     for _ in range(MOST_ROUNDING):
         new = np.asarray(np.minimum(found, np.floor(step(found / MILLION) * MILLION + noise)))
-        if np.array_equal(new, found):
+        if np.array_equal(new, found) or watch.is_over():
             break
         found = new
     return found
@@ -278,5 +282,6 @@ def worst_case_vectors(model: Model, graph: Graph, near: Distances, watch: Watch
     worst, nodes = worst_model(model, near), array_graph(graph)
     side = -1 if near.is_above else 1
     sweeper = WorstSweeper(worst, nodes)
-    found = rounded_down(sweeper, worst_case(sweeper, side * evaluate(worst.arrays, nodes), watch), watch)
+    values = evaluate(worst.arrays, nodes, is_over=watch.is_over)
+    found = rounded_down(sweeper, worst_case(sweeper, side * values, watch), watch)
     return [[float(value) for value in row] for row in (side * found / MILLION + 0.0).tolist()]  # (no -0)

@@ -8,9 +8,8 @@ from typing import List, NamedTuple, Sequence
 import numpy as np
 from numpy.typing import NDArray
 
-from polcert.arrays import Floats, Matrix
-from polcert.distances import OF_WHOLE, Spread
-from polcert.evaluation import Integers
+from polcert.arrays import Floats, Integers, Matrix, rows_of_cells
+from polcert.distances import Spread
 from polcert.points import Weights
 
 
@@ -35,7 +34,7 @@ class RowsNear:
         self.columns: Integers = matrix.indices
         self.begins: Integers = matrix.indptr[:-1]
         lengths = np.diff(matrix.indptr)
-        self.rows: Integers = np.repeat(np.arange(len(lengths)), lengths)
+        self.rows = rows_of_cells(matrix)
         self.longest = int(lengths.max())
         # (a row of one cell has nothing to choose)
         sizes = np.ceil(np.log2(lengths)).astype(np.int64)
@@ -47,7 +46,7 @@ class RowsNear:
         cells = self.begins[rows, None] + np.where(is_cell, places, 0)
         weights = np.where(is_cell, chances[cells], 0)
         whole = np.rint(weights * self._scale).astype(np.int64)
-        distance = (self._by.parts - (-whole * self._by.percent) // OF_WHOLE) / self._scale
+        distance = self._by.of(whole) / self._scale
         low = np.maximum(weights - distance, 0)
         room = np.where(is_cell, np.minimum(weights + distance, 1) - low, 0)
         return _Block(cells, is_cell, low, room, 1 - low.sum(axis=1, keepdims=True))

@@ -8,6 +8,10 @@ from polcert.tokens import FileError, Source, quoted
 _MOST_DEPTH = 100
 
 
+def is_xml(source: Source) -> bool:
+    return source.text.lstrip(b"\xef\xbb\xbf \t\r\n").startswith(b"<")
+
+
 class XmlParser:
     """Calls `begin` and `end` for the elements of a text, which are given what stands between them. `what` names the text in refusals."""
 

@@ -1,11 +1,11 @@
 """What the commands tell a user who does not know the files yet, of models that they refuse."""
 import gzip
 import unittest
-from typing import Optional
+from typing import Optional, Tuple
 
 from support import PROGRAM, FolderTest, needs_program, polcert, run_script
 from polcert.advice import advice_on
-from polcert.files import FileError, Source, read_model
+from polcert.files import FileError, Source, read_graph, read_model, read_vectors
 
 HEAD = b"discount: 0.9\nvalues: reward\nstates: a b c\nactions: go\nobservations: 1\n"
 TAIL = b"T: * identity\nO: * uniform\n"
@@ -39,6 +39,7 @@ class Advice(unittest.TestCase):
         self.told(POMDPX, "POMDPX", "`polcert-convert FILE > NEW.POMDP`")
         self.told(POLICY, "policy of SARSOP")
         self.told(b"<html>", "XML, which no model")
+        self.told(POMDPX.upper(), "XML, which no model")  # (polcert-convert refuses it, too)
 
     def test_lines(self) -> None:
         for text in (b"horizon: 5\n" + HEAD, HEAD.replace(b"states", b"horizon: 5\nstates"), HEAD.replace(b"actions", b"horizon: 5\nactions")):
@@ -66,6 +67,7 @@ class Advice(unittest.TestCase):
         self.told(HEAD.replace(b"a b c", b"s0 s\xc3\xa91"), "write `s-1`")
         self.told(HEAD.replace(b"a b c", b"s0 2nd"), "write `s2nd`")
         self.told(HEAD.replace(b"a b c", b"a, b"), "write `a` for `a,`")
+        self.told(HEAD.replace(b"a b c", b"a,b;c"), "write `a b c` for `a,b;c`: blanks alone stand between names")
         self.told(HEAD + b"T: go : a.1 : b 1\n", "`a.1` is no name", "write `a-1`")
         self.assertIsNone(advice(HEAD.replace(b"0.9", b"1.5")))
 
@@ -75,6 +77,39 @@ class Advice(unittest.TestCase):
 
     def test_numbers(self) -> None:
         self.told(HEAD + b"T: * : * 1/3 1/3 1/3\n", "write `1/3` in decimals", "`uniform`")
+
+    def test_commas(self) -> None:
+        for word, right in (("0,97", "`0.97`"), ("-1,5", "`-1.5`"), ("0,125", "`0.125`"), ("1,000", "`1000` or `1.000`")):
+            self.told(HEAD + TAIL + b"R: go : * : * : * " + word.encode(), f"write {right} for `{word}`: decimals have a point")
+        self.told(HEAD.replace(b"0.9", b"0,9"), "write `0.9` for `0,9`")
+        for word, right in (("0.5,0.5,0", "0.5 0.5 0"), ("0.5, 0.5", "0.5"), ("1,0,0", "1 0 0")):
+            self.told(HEAD + b"T: go : a " + word.encode(), f"write `{right}` for `{word.split()[0]}`: blanks alone stand between numbers")
+        self.assertIsNone(advice(HEAD + b"T: go : a 0.5;0.5 0\n"))
+
+    def test_comments(self) -> None:
+        said = "a comment begins with `#`, and not with `//`"
+        listed, row = HEAD.replace(b"a b c", b"a b c // doors"), HEAD + b"T: go : a 1 0 0 //1\n"
+        for text in (b"// doors\n" + HEAD, listed, HEAD + b"// rows\n" + TAIL, row):
+            self.assertEqual(advice(text), said)
+        self.told(HEAD + b"T: go : a 1/2 1/2 0\n", "write `1/2` in decimals")
+
+    def test_rewards_without_an_observation(self) -> None:
+        two, none = HEAD.replace(b"observations: 1", b"observations: 2"), HEAD.replace(b"observations: 1\n", b"")
+        for entry, whole in (
+            (b"R: go : * : * 30", "R: go : * : * : * 30"), (b"R: 0 : a : b -0.5 # less", "R: 0 : a : b : * -0.5"),
+            (b"R: * : a 1e3", "R: * : a : * : * 1e3"),
+        ):
+            for after in (b"", b"\nR: go : * : * : 0 1\n"):
+                self.assertEqual(advice(two + TAIL + entry + after), f"in a model with observations write `{whole}`")
+        for entry, whole in ((b"R: go : a 30", "R: go : a : * 30"), (b"R: * +1", "R: * : * : * +1")):
+            self.assertEqual(advice(none + b"T: * identity\n" + entry), f"in an MDP write `{whole}`")
+        for entry in (b"R: go : * : *", b"R: go : * : * 1 2 3", b"R: go : a 1 2 3", b"R: go : * : * : * 1 2", b"T: go : a 1", b"O: go : a 1"):
+            self.assertIsNone(advice(two + TAIL + entry + b"\n"))
+
+    def test_files_that_are_no_models(self) -> None:
+        for text in (b"0 0 1 1\n", b"# tiger\n0\n-20 1\n", b"-1\n"):
+            self.assertEqual(advice(text), "this is no model, as it begins with a number: name the model first, and then the other files")
+        self.assertIsNone(advice(b"go go go\n"))
 
     def test_the_mender_where_it_succeeds(self) -> None:
         exact = "`polcert-mend FILE > NEW` makes it exact"
@@ -93,6 +128,64 @@ class Advice(unittest.TestCase):
             self.told(text, "`polcert-mend` does not make it exact: ", why)
             self.assertNotIn("> NEW", advice(text) or "")
         self.told(HEAD + b"T: * identity\nO: * reset\n", "alone: write the row that is meant")
+
+
+class OtherFiles(unittest.TestCase):
+    """The advice on a graph, and on vectors, of a model with three states, two actions and two observations."""
+
+    MODEL = read_model(Source("M", HEAD.replace(b"go", b"go stay").replace(b"observations: 1", b"observations: 2") + TAIL))
+
+    def graph(self, text: bytes) -> Tuple[str, Optional[str]]:
+        """The code and the advice."""
+        with self.assertRaises(FileError) as caught:
+            read_graph(Source("G", text), self.MODEL)
+        return caught.exception.code, advice_on(caught.exception)
+
+    def vectors(self, text: bytes) -> Tuple[str, Optional[str]]:
+        with self.assertRaises(FileError) as caught:
+            read_vectors(Source("V", text), self.MODEL)
+        return caught.exception.code, advice_on(caught.exception)
+
+    def test_graphs_of_other_models(self) -> None:
+        why = "here, and the model another number of observations: see that graph and model belong together"
+        for text, code, each in (
+            (b"0 0 1\n1 1 0\n", "G6", "1 successor"), (b"0 0 0 1 1\n1 1 0 1 0\n", "G3", "3 successors"),
+            (b"0 0 0 1 -\n1 1 0 1 0\n", "G2", "3 successors"),
+            (b"# doors\n\n0 0 0 X 0 0 # node\n", "G3", "4 successors"), (b"0 0\n", "G6", "0 successors"),
+        ):
+            self.assertEqual(self.graph(text), (code, f"each node has {each} {why}"))
+        self.assertEqual(self.graph(b"0 2 0 0\n")[0], "G4")
+        self.assertIn("see that graph and model belong together", self.graph(b"0 2 0 0\n")[1] or "")
+
+    def test_graphs_that_may_be_of_this_model(self) -> None:
+        for text, code in ((b"0 0 0 0\n1 0 0\n", "G6"), (b"1 0 0 0\n", "G3"), (b"0 0 0 x\n", "G2"), (b"0 0 0 0 1 0 0\n", "G6"), (b"0 0 7 7\n", "G5")):
+            self.assertEqual(self.graph(text), (code, None))
+
+    def test_vectors_of_other_models(self) -> None:
+        for text, code in ((b"0\n1.5 2.5\n\n1\n2.5 3.5\n", "V3"), (b"0\n1 2 # three\n", "V5")):
+            why = "each vector has 2 numbers here, and the model another number of states: see that vectors and model belong together"
+            self.assertEqual(self.vectors(text), (code, why))
+        for text, code in ((b"0\n1 2 nan\n", "V3"), (b"0 1 2\n", "V5"), (b"0\n1 2 3\n1\n4 5\n", "V5"), (b"0\n1\n", "V5")):
+            self.assertEqual(self.vectors(text), (code, None))
+
+    def test_one_in_the_place_of_another(self) -> None:
+        self.assertEqual(self.graph(b"0\n1.5 2 3\n")[1], "these are vectors, and no graph: name the graph before them")
+        self.assertEqual(self.vectors(b"0 0 0 1\n1 1 - 0\n")[1],
+                         "this is a graph, in which each node has 2 successors: see that it belongs to the model, and stands in its place")
+        for text in (HEAD, b"# doors\n" + HEAD, b"start include: a\n"):
+            for found in (self.graph(text), self.vectors(text)):
+                self.assertEqual(found[1], "this is a model: name the model first, and then the other files")
+
+    def test_texts_without_a_token(self) -> None:
+        for text, what in ((b"", "is empty"), (b" \n\n", "is empty"), (b"# none\n", "has comments alone")):
+            self.assertEqual(self.graph(text), ("G7", f"the text {what}: see that it is the right file"))
+            self.assertEqual(self.vectors(text), ("V6", f"the text {what}: see that it is the right file"))
+
+    def test_signs(self) -> None:
+        self.assertEqual(self.graph(b"0 0 0,0\n")[1], "write `0 0` for `0,0`: blanks alone stand between numbers")
+        self.assertEqual(self.vectors(b"0\n1,5 2 3\n")[1], "write `1.5` for `1,5`: decimals have a point, and thousands have nothing")
+        for found in (self.graph(b"// doors\n"), self.vectors(b"0 1 2 // three\n3")):
+            self.assertEqual(found[1], "a comment begins with `#`, and not with `//`")
 
 
 class Commands(FolderTest):

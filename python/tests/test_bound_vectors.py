@@ -10,6 +10,7 @@ from informed import Exact, Millionths, exact_entries, exact_model, raised
 from models import random_model, tag
 from polcert.command import read_source
 from polcert.files import MILLION, Model, Source, read_model, read_vectors
+from polcert.stopping import Stopping
 from polcert.tokens import decimal
 
 if HAS_NUMPY:
@@ -122,10 +123,10 @@ class Limits(BoundVectors):
     def test_each_round_leaves_a_bound_and_says_how_far_above_it_is(self) -> None:
         backup = script.by_state(arrays_of(read_model(read_source(str(EXAMPLES / "machine.POMDP")))))
         for rounds in range(1, 9):
-            vectors, above = script.settle(backup, np.zeros((3, 2)), 0.95, 1e-9, rounds)
+            vectors, above = script.settle(backup, np.zeros((3, 2)), 0.95, Stopping(1e-9, rounds))
             values, backups = vectors.max(axis=0), backup(vectors).max(axis=0)
             self.assertTrue(all(x <= y + 1e-9 for x, y in zip(backups, values)), rounds)
-            limits = script.settle(backup, vectors, 0.95, 1e-9, 1000)[0].max(axis=0)
+            limits = script.settle(backup, vectors, 0.95, Stopping(1e-9, 1000))[0].max(axis=0)
             self.assertTrue(all(-1e-9 <= x - y <= above + 1e-9 for x, y in zip(values, limits)), rounds)
 
     def test_the_tolerance(self) -> None:
@@ -139,7 +140,7 @@ class Limits(BoundVectors):
         # the worth of the machine for who sees its state is 16.07306 by the study, rounded as above
         model = read_model(read_source(str(EXAMPLES / "machine.POMDP")))
         with patch.object(script, "MOST_PRODUCTS", 13), patch.object(script, "say") as say:
-            vectors, above = script.informed_bound(arrays_of(model), 1e-7, 1000)
+            vectors, above = script.informed_bound(arrays_of(model), Stopping(1e-7, 1000))
         self.assertIn("14 products of T and O are too many", say.call_args[0][0])
         self.assertLessEqual(above, 1e-7)
         found = self.certified(exact_model(model), [[round(value * MILLION) for value in values] for values in vectors])
@@ -150,7 +151,7 @@ class Limits(BoundVectors):
         exact, most = exact_model(model), script.MOST_ROUNDING
         found = []
         for script.MOST_ROUNDING in (0, most):
-            vectors = [[round(value * MILLION) for value in values] for values in script.informed_bound(arrays_of(model), 1e-7, 1000)[0]]
+            vectors = [[round(value * MILLION) for value in values] for values in script.informed_bound(arrays_of(model), Stopping(1e-7, 1000))[0]]
             found.append((exact.constant(vectors), self.certified(exact, vectors)))
         self.assertEqual(found[1][0], 0)
         self.assertGreater(found[0][0], 0)

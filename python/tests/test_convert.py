@@ -9,7 +9,7 @@ from typing import Dict
 from unittest.mock import patch
 
 from support import PROGRAM, FolderTest, needs_numpy, needs_program, polcert, present, run_script
-from polcert.commands.convert import converted
+from polcert.conversion import converted
 from polcert.command import Refusal
 from polcert.files import FileError, Model, Source, read_model
 from polcert.flattening import decimal_of
@@ -236,8 +236,9 @@ class Refused(unittest.TestCase):
     def test_too_many_cells(self) -> None:
         # one cell of the start, three and nine of T, and eight of R
         text = (DATA / "clock.pomdpx").read_text()
-        with patch("polcert.flattening.LARGE_TABLE", 12), self.assertRaisesRegex(Refusal, "more than 12 cells other than 0"):
-            text_of(text)
+        for least in (12, 20):
+            with patch("polcert.flattening.LARGE_TABLE", least), self.assertRaisesRegex(Refusal, f"more than {least} cells other than 0"):
+                text_of(text)
         with patch("polcert.flattening.LARGE_TABLE", 13 + 8):
             text_of(text)
 
@@ -259,6 +260,13 @@ class Policies(unittest.TestCase):
             Solved(2, [18.07375, 9.025, low, low, low, low]), Solved(0, [low, low, 17.1700625, 8.57375, low, low]),
             Solved(1, [low, low, 10.0, 10.0, low, low]), Solved(2, [low, low, low, low, 0.0, 0.0]),
         ])
+
+    def test_costs_over_the_unseen_part(self) -> None:
+        costs = read_solved(Source("policy", POLICY.replace("19.025 ", "5000 ").encode()), model_of(ROCK), are_costs=True)
+        assert isinstance(costs, list)
+        # (what is not said is less than all that is)
+        self.assertEqual(costs[0], Solved(3, [-5000.0, 0.975, -5001.0, -5001.0, -5001.0, -5001.0]))
+        self.assertEqual(costs[1], Solved(1, [-9.5, -9.5, -5001.0, -5001.0, -5001.0, -5001.0]))
 
     def test_what_is_refused(self) -> None:
         for old, new, place, reason in (
@@ -282,7 +290,7 @@ class Command(FolderTest):
         self.assertEqual(run_script("polcert-mend", out).out, said.out)
 
     def test_what_is_no_pomdpx(self) -> None:
-        for text in (b"discount: 1", POLICY.encode()):
+        for text in (b"discount: 1", POLICY.encode(), ROCK.replace("pomdpx", "POMDPX").encode()):
             said = run_script("polcert-convert", self.file("m", text))
             self.assertEqual((said.status, said.out), (2, b""))
             self.assertRegex(said.err, r"\Apolcert-convert: [^\n]*expected a model in POMDPX, found no `<pomdpx>`\n\Z")
@@ -316,7 +324,8 @@ class Command(FolderTest):
         model, words = self.file("rock.pomdpx", ROCK.encode()), ["-o", str(self.folder / "out"), "--seconds", "20", "--programs", str(programs), "-q"]
         for given in ([model], [model, self.file("rock.policy", POLICY.encode())]):
             said = run_script("polcert-certify", *given, *words)
-            found = re.match(rb"rock: this controller earns between ([0-9.]+) and ([0-9.]+); every policy at most ([0-9.]+); ", said.out)
+            line = rb"rock: started in node [0-9]+, this controller earns between ([0-9.]+) and ([0-9.]+); every policy at most ([0-9.]+); "
+            found = re.match(line, said.out)
             self.assertIsNotNone(found, said)
             # 0.95 * 0.95 * (19.025 + 9.5) / 2, of going there, looking, and doing what is best
             for number in present(found).groups():

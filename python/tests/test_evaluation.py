@@ -6,13 +6,15 @@ from models import random_model
 from support import EXAMPLES, HAS_NUMPY, needs_numpy
 from test_mend import values
 from test_outputs import ALPHA, PG, TIGER, OutputTest
-from polcert.command import read_source
+from polcert.command import Refusal, read_source
 from polcert.files import Graph, Source, read_graph, read_model, read_vectors
+from polcert.stopping import Stopping
 
 if HAS_NUMPY:
+    import numpy as np
     from polcert import evaluation
     from polcert.arrays import arrays_of
-    from polcert.evaluation import array_graph, evaluate, listed_graph
+    from polcert.evaluation import Sweeper, array_graph, evaluate, evaluate_below, in_millionths, listed_graph
 
 # The first observation comes with 0.25, and only it has a successor: the value is 1 + 0.5 * 0.25 * itself.
 ENDS = b"discount: 0.5 values: reward states: 1 actions: 1 observations: 2 T: 0 identity O: * 0.25 0.75 R: 0 : * : * : * 1\n"
@@ -52,6 +54,32 @@ class Evaluation(OutputTest):
         whole = evaluate(arrays_of(model), graph)
         with patch.object(evaluation, "BLOCK_NUMBERS", 1):
             self.assertLess(float(abs(evaluate(arrays_of(model), graph) - whole).max()), 1e-9)
+
+    def test_a_discount_near_1(self) -> None:
+        """Each of 11 states is left with 0.9 for the next one, and the first one earns 1 a step: in the mean 1 / 11, or 1,000,000 / 11 in all."""
+        moves = "".join(" ".join({s: "0.1", (s + 1) % 11: "0.9"}.get(e, "0") for e in range(11)) + "\n" for s in range(11))
+        text = f"discount: 0.999999 values: reward states: 11 actions: 1 observations: 1 T: 0\n{moves}O: 0 uniform R: 0 : 0 : * : * 1\n"
+        model, graph = read_model(Source("m", text.encode())), array_graph(Graph([0], [[0]]))
+        self.assertAlmostEqual(float(evaluate(arrays_of(model), graph).mean()), 1_000_000 / 11, 4)
+        with patch.object(evaluation, "MOST_DIRECT", 0), patch.object(evaluation, "MOST_SOLVING", 2), patch.object(evaluation, "MOST_SWEEPS", 3):
+            with self.assertRaisesRegex(Refusal, "does not settle"):
+                evaluate(arrays_of(model), graph)
+
+    def test_what_ends_early_promises_no_more_than_graphs_are_worth(self) -> None:
+        for seed in range(20):
+            random_ = random.Random(seed)
+            model = read_model(Source("m", random_model(random_, exact=True).text()))
+            rows = [[random_.randrange(3) for _ in range(model.observations.count)] for _ in range(3)]
+            graph = Graph([random_.randrange(model.actions.count) for _ in range(3)], [list(row) for row in rows])
+            arrays, worth = arrays_of(model), np.array(values(model, list(zip(graph.actions, rows)))[0], dtype=float)
+            for begin, rounds in ((0.0, 0), (0.0, 3), (1000.0, 0), (-1000.0, 3)):
+                given = np.full(worth.shape, begin)
+                found = evaluate_below(arrays, array_graph(graph), given, Stopping(1e-10, rounds, lambda: True))
+                self.assertLess(float((found - worth).max()), 1e-4, seed)
+                rounded = in_millionths(arrays, array_graph(graph), given + worth, lambda: True)
+                self.assertLess(float((rounded - worth).max()), 1e-4, seed)
+                backed = Sweeper(arrays).sweep(array_graph(graph), rounded)
+                self.assertLess(float((rounded - backed).max()), 1e-8, seed)
 
     def test_a_graph_there_and_back(self) -> None:
         graph = Graph([0, 1], [[1, None], [None, 0]])

@@ -68,6 +68,27 @@ class Refusals(FolderTest):
             self.assertEqual(refusal(case.given), case.expected.err.decode().strip(), case.name)
         self.assertGreater(len(refused), 20)
 
+    def test_limits_of_large_tables(self) -> None:
+        head = b"discount: 1 values: reward states: 2 actions: 1 observations: 1 T: 0 identity O: 0 uniform"
+        with patch("polcert.files.LARGE_TABLE", 3), patch("polcert.files.MOST_REWARD_ENTRIES", 1):
+            for entries, item in (
+                (b"", 0), (b" T: 0 : 0 : 0 1", 0), (b" T: 0 identity", 8), (b" T: 0 : 0 uniform", 8), (b" T: 0 : * : 0 1", 8),
+                (b" R: 0:0:0:0 1", 0), (b" R: 0:0:0:0 1 R: 0:0:0:0 1", 9),
+            ):
+                text = head + entries
+                self.assertEqual(refusal(text)[:10], "model: M16" if item else "", text)
+                if item:
+                    self.assertEqual(refusal(text), f"model: M16 in item {item} at byte {len(text)}")
+
+    def test_lines_and_columns(self) -> None:
+        text = bytearray(b"a" * 10_000)
+        for byte in (0, 4095, 4096, 8190, 8192):
+            text[byte] = ord("\n")
+        source = Source("text", bytes(text))
+        for byte in (*range(3), *range(4090, 4100), *range(8188, 8196), 10_000):
+            before = bytes(text[:byte])
+            self.assertEqual(source.position(byte), (before.count(b"\n") + 1, byte - before.rfind(b"\n")), byte)
+
     def test_messages(self) -> None:
         wanted = {
             b"discount: nan": "model:1:11: M4: expected a number, found `nan`",

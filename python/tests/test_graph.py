@@ -8,6 +8,7 @@ from support import EXAMPLES, HAS_NUMPY, PROGRAM, FolderTest, Said, needs_numpy,
 from polcert.command import read_source
 from polcert.files import Graph, Model, Source, read_graph, read_model, read_vectors
 from polcert.policies import Solved, read_solved
+from polcert.values import vectors_text
 from test_mend import rough_model, values
 
 if HAS_NUMPY:
@@ -157,6 +158,13 @@ class Vectors(GraphTest):
         self.assertIn("the vectors claim -5.000000", said.err)
         self.certified(model)
 
+    def test_costs_that_are_not_said_to_be_costs(self) -> None:
+        text = b"discount: 0.5 values: cost states: 1 actions: 1 observations: 1 T: 0 identity O: 0 uniform R: 0:0:0:0 1\n"
+        model, solved = self.file("model", text), self.file("solved", b"0 2\n")
+        advice = f"polcert-graph: the numbers of {solved} are above 0, while no reward of the model is: if they are costs, say --costs\n"
+        self.assertTrue(self.graph(model, solved).err.startswith(advice))
+        self.assertNotIn("polcert-graph: ", self.graph(model, solved, "--costs").err)
+
     def test_nodes_that_do_the_same(self) -> None:
         graph = Graph([0, 1, 0, 1, 1], [[1, 2], [0, None], [3, 0], [2, None], [0, 0]])
         small = listed_graph(without_copies(array_graph(graph), 2))
@@ -209,6 +217,19 @@ class Policies(GraphTest):
             said = self.graph(stock, self.file("policy", text))
             self.assertEqual(said.status, 2)
             self.assertIn(reason, said.err)
+
+    def test_policies_of_an_mdp_with_another_number_of_actions(self) -> None:
+        expected = "expected an action for each state of the model, which are 4, found"
+        for text, reason in (
+            (b"order-two order-one wait", f":1:25: {expected} 3\n"), (b"wait\nwait\nwait\n0\nwait\nwait", f":5:1: {expected} 6\n"),
+            (b"2 1\n", f":2:1: {expected} 2\n"), (b"wait sell", f":1:10: {expected} 2\n"),
+            # no list of actions: no name of one, no number of one, enough numbers for a vector
+            (b"sell", ":1:1: V3: "), (b"2 7", ":1:4: V5: "), (b"0 1 2 0 1 2", ":1:12: V5: "), (b"wait 0.5", ":1:1: V3: "), (b"", ":1:1: V6: "),
+        ):
+            said = self.graph(example("stock.POMDP"), self.file("policy", text))
+            self.assertEqual(said.status, 2)
+            self.assertIn(f"policy{reason}", said.err)
+        self.assertIn(":1:1: V3: ", self.graph(example("tiger.POMDP"), self.file("policy", b"listen")).err)
 
     def test_words(self) -> None:
         self.assertEqual(run_script("polcert-graph", "--help").status, 0)
@@ -264,7 +285,8 @@ class OwnVectors(GraphTest):
             vectors = [Solved(*vector) for vector in zip(graph.actions, evaluate(arrays_of(model), array_graph(graph)).tolist())]
             random_.shuffle(vectors)
             name = self.file("model", model.source.text)
-            said = self.own(name, self.file("solved", witness.own_vectors_text(vectors)), "--within", "0.00001")
+            text = vectors_text((vector.action for vector in vectors), (vector.values for vector in vectors), repr)
+            said = self.own(name, self.file("solved", text), "--within", "0.00001")
             self.assertIn(f"{nodes} of {nodes} vector", said.err)
             self.assertEqual(self.written(name), vectors)
             self.certified(name)
@@ -306,7 +328,7 @@ class OwnVectors(GraphTest):
             (self.file("high", b"0 9 9\n"), (), "no successors back a vector within 0.000900 of one step"),
             (self.file("huge", POLICY.replace("0.690871", "-1e8").encode()), ("--within", "10000000"), "a value is beyond 10,000,000"),
             (example("tiger.alpha"), ("--within", "-1"), "-1 is not from 0 to 10,000,000"),
-            (example("tiger.alpha"), ("--within", "x"), "invalid amount value"),
+            (example("tiger.alpha"), ("--within", "x"), "invalid number value"),
         ):
             said = self.graph(tiger, solved, "--own-vectors", *words)
             self.assertEqual((said.status, said.out), (2, b""))

@@ -156,7 +156,7 @@ class Reports(JsonTest):
         lines = [verdict["line"] for verdict in found["verdicts"]]
         self.assertEqual(lines[0], "no: node 1, state 0, short by 0.000001")
         self.assertEqual(found["lowered"], {"line": "lowered by 0.000008", "verdict": "yes: start node 0, at least 19.37136"})
-        self.assertEqual(found["controller"], {"at_least": "19.37136", "at_most": "19.371377"})
+        self.assertEqual(found["controller"], {"start_node": 0, "at_least": "19.37136", "at_most": "19.371377"})
         self.assertEqual((found["width"], found["gap"], found["every_policy"]), ("0.000017", None, None))
         self.assertEqual(found["nodes"][4], {"node": 4, "action": "open-left", "at_least": "-26.597208", "at_most": "-26.597191"})
         sums = []
@@ -175,6 +175,32 @@ class Reports(JsonTest):
         self.assertEqual(found["every_policy"], {"line": "yes: every policy, at most 20.5", "at_most": "20.5"})
         self.assertEqual((found["gap"], len(found["files"]), len(found["programs"])), ("1.12864", 4, 2))
 
+    def test_bounds_that_have_no_gap(self) -> None:
+        """With discount 1 vectors of 5 for nothing pass, since none of them fades; with 0.5 a bound below what is earned is none."""
+        os.symlink(PROGRAM, self.folder / "polcert")
+        script = "case $1 in --version) echo polcert_bound 1;; *) echo 'yes: every policy, at most 1';; esac"
+        os.chmod(self.file("polcert_bound", f"#!/bin/sh\n{script}\n".encode()), 0o755)
+        text = "values: reward states: 1 actions: 1 observations: 1 T: 0 identity O: 0 uniform"
+        graph, vectors = self.file("m.pg", b"0 0 0"), self.file("m.alpha", b"0 5")
+        words = [graph, vectors, "--program", str(self.folder / "polcert"), "--bound", ALPHA]
+        found = self.result("polcert-report", self.file("m.POMDP", f"discount: 1 {text}".encode()), *words)
+        self.assertEqual(found["controller"], {"start_node": 0, "at_least": "5", "at_most": "5"})
+        self.assertEqual((found["width"], found["gap"], found["every_policy"]["at_most"]), ("0", None, "1"))
+        said = run_script("polcert-report", self.file("m.POMDP", f"discount: 0.5 {text} R: * : * : * : * 2.5".encode()), *words, "--json")
+        self.assertEqual((said.status, said.out), (2, b""))
+        self.assertIn("polcert-report: the programs contradict each other: at least 5 and at most 1; ", said.err)
+
+    @needs_numpy
+    def test_an_mdp(self) -> None:
+        """A step earns 1 if its action has the state's number, which stays: one node is worth 2 in one of both states alone."""
+        folder = self.folder / "programs"
+        folder.mkdir()
+        for name, program in programs_beside(str(PROGRAM)).items():
+            os.symlink(os.path.realpath(program), folder / name)
+        model = self.file("m.mdp", b"discount: 0.5 values: reward states: 2 actions: 2 T: * identity R: 0 : 0 : * 1 R: 1 : 1 : * 1\n")
+        found = self.result("polcert-certify", model, "-q", "-o", str(self.folder / "out"), "--programs", str(folder))
+        self.assertEqual(found["controller"], {"start_node": 0, "at_least": "1.5", "at_most": "1.5", "at_least_where_the_start_is_seen": "2"})
+
     @needs_numpy
     def test_a_mended_model(self) -> None:
         folder = self.folder / "programs"
@@ -183,7 +209,7 @@ class Reports(JsonTest):
             os.symlink(os.path.realpath(program), folder / name)
         model = self.file("m.POMDP", b"discount: 0.9 values: reward states: 2 actions: 1 observations: 1 T: 0 0.9 0.1001 0 1 O: * uniform\n")
         found = self.result("polcert-certify", model, "-q", "-o", str(self.folder / "out"), "--within", "0.001", "--programs", str(folder))
-        self.assertEqual(found["written"], {"at_least": "0", "within": "0.000041", "rewards_within": "0"})
+        self.assertEqual(found["written"], {"at_least": "0", "start_node": 0, "within": "0.000041", "rewards_within": "0"})
 
     @needs_numpy
     def test_the_gate_of_a_release(self) -> None:

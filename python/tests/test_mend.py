@@ -5,25 +5,24 @@ from fractions import Fraction
 from typing import Dict, Iterator, List, Tuple
 
 from models import random_model, tag
-from support import EXAMPLES, NAMES, PROGRAM, FolderTest, Said, load, polcert, present, refusals_rows, run_script
+from support import EXAMPLES, NAMES, PROGRAM, FolderTest, Said, polcert, present, refusals_rows, run_script
 from polcert.files import FileError, Model, Row, Source, read_model
+from polcert.mending import Mender, mended, mended_text, values_bound
 
 HEAD = b"discount: 0.9\nvalues: reward\nstates: 3\nactions: 2\nobservations: 2\n"
 TAIL = b"O: * uniform\nR: * : * : * : * 1\n"
 MARK = b"# Rows that did not sum to one, mended by polcert-mend:\n"
 
-
-script = load("polcert-mend")
 WITHIN = Fraction(1, 100000)
 
 
 def mend_here(text: bytes, within: Fraction = WITHIN) -> Tuple[bytes, str]:
     """The mended text and its bound, without a run of the script. Raises FileError if it is refused."""
     model = read_model(Source("m", text), tolerant=True)
-    mend = script.Mender(model, within).run()
-    out = script.mended_text(model.source, mend)
+    mend = Mender(model, within).run()
+    out = mended_text(model.source, mend)
     read_model(Source("mended", out))
-    return out, script.bound(model, mend.moved)
+    return out, values_bound(model, mend.moved)
 
 
 class MendTest(FolderTest):
@@ -210,7 +209,7 @@ class Changes(MendTest):
     def test_the_distance_is_the_greatest_difference(self) -> None:
         for seed in range(40):
             text = rough_model(random.Random(seed))
-            made = script.mended(Source("m", text), Fraction(3, 100))
+            made = mended(Source("m", text), Fraction(3, 100))
             rows = [*rows_of_both(text, made.text), (made.model.start_weights(), read_model(Source("new", made.text)).start_weights())]
             most = max(abs(p / sum(before.values()) - after.get(c, 0)) for before, after in rows for c, p in before.items() if p > 0)
             lost = any(p > 0 and not after.get(c) for before, after in rows for c, p in before.items())

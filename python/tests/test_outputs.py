@@ -4,7 +4,7 @@ import resource
 import signal
 import subprocess
 import sys
-from typing import Any, Dict, Optional, Sequence, Tuple, Union
+from typing import Any, Callable, Dict, Optional, Sequence, Tuple, Union
 from unittest.mock import patch
 
 from support import EXAMPLES, SCRIPTS, FolderTest, Said, needs_numpy
@@ -28,6 +28,7 @@ class OutputTest(FolderTest):
         # a run that writes out.pg and out.alpha
         self.graph = ["polcert-graph", TIGER, ALPHA, "-o", str(self.folder / "out"), "--nodes", "5", "--rounds", "1"]
 
+    # (Eight parameters: what a test changes of a run.)
     def run_with(self, words: Sequence[str], out: File = subprocess.PIPE, err: File = subprocess.PIPE, given: File = "/dev/null",
                  closed: Sequence[int] = (), limits: Optional[Dict[int, int]] = None, patched: str = "", **variables: str) -> Said:
         """Runs a script with these streams, except for those that are closed, and limits of resources. `patched` is Python code that runs
@@ -136,6 +137,14 @@ class Files(OutputTest):
             self.assertEqual((said.status, said.out, said.err.splitlines()[-1]), (3, b"", f"{words[0]}: {out}: File too large"))
             self.assertEqual(self.listed(), {"out": b"before"})
 
+    @needs_numpy
+    def test_a_full_disk_of_copies_for_the_programs(self) -> None:
+        for name in ("polcert", "polcert_bound"):
+            os.chmod(self.file(name, b"#!/bin/sh\n"), 0o755)
+        words = ["polcert-certify", TIGER, "-q", "-o", str(self.folder / "out"), "--programs", str(self.folder)]
+        self.refused(self.run_with(words, limits=disk(9), TMPDIR=str(self.folder)), rf"{self.folder}/polcert-[^/ ]+/0: File too large", 3)
+        self.assertEqual(sorted(self.listed()), ["polcert", "polcert_bound"])
+
     def test_a_written_file(self) -> None:
         text = (EXAMPLES / "tiger.POMDP").read_bytes()
         old, link, new = self.file("old", b"before"), self.folder / "link", self.folder / "new"
@@ -189,11 +198,27 @@ class TwoFiles(OutputTest):
         self.refused(self.run_with(self.graph), "out.alpha: Is a directory", 3)
         self.assertEqual(os.listdir(self.folder), ["out.alpha"])
 
+    def test_before_it_computes(self) -> None:
+        file, folder = self.file("file", b"before"), str(self.folder)
+        for output in (file, f"{file}/below"):
+            said = self.run_with(["polcert-certify", TIGER, "-o", output, "--programs", folder])
+            self.refused(said, f"{output}: Not a directory", 3)
+        (self.folder / "tiger.pg").mkdir()
+        self.refused(self.run_with(["polcert-certify", TIGER, "-o", folder, "--programs", folder]), "tiger.pg: Is a directory", 3)
+        checks: Tuple[Tuple[str, Callable[[], None]], ...] = (
+            (file, lambda: polcert.command.refuse_unwritable([file])), (folder, lambda: polcert.command.refuse_unwritable([f"{folder}/new"])),
+            (folder, lambda: polcert.command.refuse_unwritable_folder(f"{folder}/new/newer", [])),
+        )
+        for unwritable, check in checks:
+            check()
+            with patch.object(os, "access", lambda path, _: path != os.path.realpath(unwritable)), self.assertRaises(PermissionError):
+                check()
+
     def test_a_move_that_fails(self) -> None:
         replace = os.replace
 
         def no_vectors(source: str, target: str) -> None:
-            if target == vectors and not os.path.exists(vectors):
+            if target == vectors:
                 raise PermissionError(1, "Operation not permitted", target)
             replace(source, target)
 
@@ -205,7 +230,26 @@ class TwoFiles(OutputTest):
                 self.file(name, text)
             with patch.object(os, "replace", no_vectors), self.assertRaises(PermissionError):
                 polcert.command.write_files({graph: b"1", vectors: b"2"})
-            self.assertEqual({**self.listed(), "x.alpha": old.get("x.alpha")}, {**old, "x.alpha": old.get("x.alpha")})
+            self.assertEqual(self.listed(), old)
+
+    def test_a_file_that_cannot_be_replaced_stays(self) -> None:
+        name = self.file("x", b"old")
+        with patch.object(os, "replace", side_effect=PermissionError(1, "Operation not permitted")), self.assertRaises(PermissionError):
+            polcert.command.write_files({name: b"new"})
+        self.assertEqual(self.listed(), {"x": b"old"})
+
+    @needs_numpy
+    def test_an_old_file_that_cannot_be_removed(self) -> None:
+        broken = "import os\nreal = os.unlink\ndef unlink(path):\n    if '.polcert-' in path and open(path).read() == 'old':\n" \
+                 "        raise PermissionError(1, 'Operation not permitted', path)\n    real(path)\nos.unlink = unlink\n"
+        for name in ("out.pg", "out.alpha"):
+            self.file(name, b"old")
+        said = self.run_with(self.graph, patched=broken)
+        self.assertEqual(said.status, 0)
+        self.assertRegex(said.err.splitlines()[0], r"\Apolcert-graph: .*out\.pg is written, but what was there before is left in "
+                         r".*/\.polcert-\S+: Operation not permitted\Z")
+        self.assertEqual(sorted(name for name, text in self.listed().items() if text != b"old"), ["out.alpha", "out.pg"])
+        self.assertEqual(list(self.listed().values()).count(b"old"), 1)
 
 
 class Interrupts(OutputTest):

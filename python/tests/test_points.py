@@ -24,10 +24,11 @@ if HAS_NUMPY:
     import numpy as np
     import polcert.certificate
     from polcert.arrays import arrays_of
-    from polcert.certificate import FloatCheck, certified_points, informed_vectors, passing
+    from polcert.certificate import Ends, FloatCheck, certified_points, informed_vectors, passing
     from polcert.evaluation import evaluate
     from polcert.informed import informed_bound
     from polcert.solver import Limits, Solver
+    from polcert.stopping import never
 
 TIGER = str(EXAMPLES / "tiger.POMDP")
 TIGER_VECTORS = [[87_179_494, 87_179_494], [-17_179_480, 92_820_520], [92_820_520, -17_179_480]]
@@ -140,6 +141,8 @@ class CheckByHand(FolderTest):
             points = read_points(Source("P", given), cells)
             self.assertIsNone(check_points(cells, vectors, points))
             self.assertEqual(most_from_points(cells, vectors, points), most)
+        # 0.3 of a millionth is rounded up
+        self.assertEqual(most_from_points(cells, [[1, 0]], Points([], [], [])), 1)
 
     def test_informed_vectors(self) -> None:
         cells = cells_of(STILL)
@@ -273,7 +276,7 @@ def certified(model: Model, trials: int) -> Tuple[WholeCells, List[List[int]], P
     vectors = informed_vectors(cells, informed_bound(arrays)[0])
     solver = Solver(arrays, np.array(vectors) / MILLION)
     solver.run(Limits(20.0, 1e-7, 1000), lambda: solver.trials >= trials, lambda it: None)
-    points = certified_points(solver, cells, vectors, lambda: False)
+    points = certified_points(solver, cells, vectors, Ends(never, never), lambda: None)
     assert check_vectors(cells, vectors) is None and check_points(cells, vectors, points) is None
     return cells, vectors, points, solver
 
@@ -358,12 +361,19 @@ class Certificates(FolderTest):
                 yield FloatCheck(*made.call_args[0])
 
     def count_decided(self, quick: FloatCheck) -> int:
-        """The pairs that floating point decides, which all pass the exact check."""
+        """The pairs that floating point decides, which all pass the exact check, and not just so."""
         quick.check.charge_again()
         pairs = np.argwhere(~quick.undecided()).tolist()
         for point, action in pairs:
-            self.assertLessEqual(quick.check.excess(point, action), 0)
+            self.assertLess(quick.check.excess(point, action), 0)
         return len(pairs)
+
+    def test_one_constant_for_all(self) -> None:
+        # by itself (0.5 0.5) is worth 0.5 + 0.5 * 0.5, which is 0.25 more than 0.5; the least constant is 0.25 / (1 - 0.5)
+        cells, vectors = cells_of(STILL), [[4_000_000, 1_000_000]]
+        check = PointCheck(cells, vectors, read_points(Source("P", b"0 0.5 0.5  0.5 0"), cells))
+        polcert.certificate.raise_all(check)
+        self.assertEqual((check.points.values, check.first_excess()), ([[1_000_000]], None))
 
     @patch("polcert.certificate.MOST_RAISES", 1_000_000)
     def test_what_floating_point_decides_is_right(self) -> None:
@@ -428,7 +438,7 @@ class Writes(OutputTest):
         for words in (["--seconds", "0"], ["--points", "20"], ["--gap", "1"], ["--points", "120"]):
             said, cells, vectors, points = self.points(machine, *words)
             found.append(most_from_points(cells, vectors, points))
-            self.assertRegex(said.err, r"\Apolcert-points: [0-9]+ s, 0 points: from -?[0-9.]+ to 14\.688885, gap [0-9.]+ %\n")
+            self.assertRegex(said.err, r"\Apolcert-points: [0-9]+ s, [0-9]+ vectors, 0 points: from -?[0-9.]+ to 14\.688885, gap [0-9.]+\n")
         self.assertEqual(found[0], 14_688_885)
         self.assertTrue(14_688_885 > found[1] > found[3] and 11_391_180 <= found[3] <= 11_500_000, found)
         self.assertLess(found[2], 11_391_180 * 1.011)
@@ -480,7 +490,7 @@ class Writes(OutputTest):
         words = [sys.executable, str(SCRIPTS / "polcert-points"), machine, "-o", str(self.folder / "m"), "--seconds", "600"]
         with subprocess.Popen(words, stdout=subprocess.PIPE, stderr=subprocess.PIPE) as child:
             assert child.stderr is not None
-            self.assertRegex(child.stderr.readline(), rb"polcert-points: [0-9]+ s, 0 points")
+            self.assertRegex(child.stderr.readline(), rb"polcert-points: [0-9]+ s, [0-9]+ vectors, 0 points")
             child.stderr.readline()
             child.send_signal(signal.SIGINT)
             out, err = child.communicate()
@@ -506,6 +516,7 @@ signal.signal = set_handler
         self.refused(said, "interrupted", 130)
         self.assertEqual(self.listed(), {})
         said = self.run_with(words, patched=kill.format(False))
-        self.assertEqual((said.status, said.err), (0, "polcert-points: interrupted: what was found so far is written\n"))
+        lines = "ending early; a second interrupt ends it at once", "interrupted: what was found so far is written"
+        self.assertEqual((said.status, said.err), (0, "".join(f"polcert-points: {line}\n" for line in lines)))
         self.assertIn(b"0 points, every policy at most 87.179494 ", said.out)
         self.written(TIGER)

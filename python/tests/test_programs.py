@@ -195,7 +195,8 @@ class Calls(FolderTest):
                 polcert.check(TIGER_FILES[0], TIGER_FILES[1], TIGER_FILES[2], program=program)
             self.assertEqual(caught.exception.status, status)
 
-        fails("nowhere: there is no such program", None, program="nowhere")
+        fails("^nowhere: there is no such program on the path: build it by `make run`", None, program="nowhere")
+        fails("^no/where: there is no such program: build it by `make run`", None, program="no/where")
         for script, reason, status in (
             ("kill -SEGV $$", "no answer", -11), ("echo 'yes: start node 0, at least 1'; exit 1", "no answer", 1), ("exit 0", "no answer", 0),
             ("echo 'no: node 0, state 0, short by 1'", "no answer", 0), ("echo 'out of memory' >&2; exit 4", "out of memory", 4),

@@ -1,5 +1,6 @@
 """polcert-report."""
 import hashlib
+import json
 import os
 import shutil
 import unittest
@@ -50,6 +51,14 @@ class Report(FolderTest):
         self.assertIn("- `polcert check`: no: node 0, state 0, short by 2\n", report)
         self.assertIn("| 0 | 0 | 1 | -1 | 0 | 2 | 0 |", report)
         self.assertIn("| 0 | 0 | -2 | 2 |\n", report)
+
+    def test_nodes_are_rounded_to_the_safe_side(self) -> None:
+        # state 0 earns a millionth each step, which is two, and state 1 nothing: lowered by 0 and raised by 1, the means are 0.5 and 1.5 millionths
+        text = b"discount: 0.5 values: reward states: 2 actions: 1 observations: 1 T: 0 identity O: 0 uniform R: 0 : 0 : * : * 0.000001"
+        names = self.file("m", text), self.file("pg", b"0 0 0"), self.file("alpha", b"0 0.000001 0")
+        self.assertIn("| 0 | 0 | 0 | 0.000002 |\n", self.report(*names))
+        nodes = json.loads(run_script("polcert-report", *names, "--json", "--program", PROGRAM).out)["nodes"]
+        self.assertEqual(nodes, [{"node": 0, "action": "0", "at_least": "0", "at_most": "0.000002"}])
 
     def test_no_constant_helps(self) -> None:
         model = self.file("lack.POMDP", b"discount: 0.5 values: reward states: 1 actions: 1 observations: 2 T: 0 identity O: 0 uniform")

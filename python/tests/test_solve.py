@@ -9,12 +9,13 @@ from fractions import Fraction
 from itertools import product
 from math import floor
 from typing import Any, List, NamedTuple, Optional, Sequence, Tuple
+from unittest.mock import patch
 
 from models import Entries, Head, random_model, random_row
 from support import EXAMPLES, HAS_NUMPY, NAMES, SCRIPTS, Said, needs_numpy, needs_program, polcert, present, run_script
 from informed import Exact, exact_model
 from test_outputs import OutputTest, disk
-from polcert.command import read_source
+from polcert.command import Refusal, read_source
 from polcert.files import MILLION, Graph, Model, Source, read_graph, read_model, read_vectors
 from polcert.points import WholeCells, check_points, check_vectors, read_points
 
@@ -25,8 +26,9 @@ if HAS_NUMPY:
     from polcert.informed import informed_bound
     from polcert import evaluation
     from polcert.sawtooth import Sawtooth
-    from polcert.solutions import Bound, Solution, solve
+    from polcert.solutions import Solution, UpperBound, better_solution, solve
     from polcert.solver import Limits
+    from polcert.watch import Watch
 
 TIGER, MACHINE = str(EXAMPLES / "tiger.POMDP"), str(EXAMPLES / "machine.POMDP")
 Rows = Sequence[Sequence[float]]
@@ -83,12 +85,12 @@ def shortfall(model: Model, graph: Graph, values: List[List[Fraction]]) -> Fract
     for (action, row), node in zip(zip(graph.actions, graph.successors), values):
         for state, value in enumerate(node):
             block, worth = model.rewards.of(action, state), Fraction(0)
-            for end, p in model.transitions.row(action, state).items():
-                for z, q in model.observing.row(action, end).items():
-                    reward = -block.at(end, z) if model.is_cost else block.at(end, z)
-                    following = row[z]
-                    assert following is not None
-                    worth += p * q * (reward + model.discount * values[following][end])
+            moves = model.transitions.row(action, state).items()
+            for end, z, p in ((end, z, p * q) for end, p in moves for z, q in model.observing.row(action, end).items()):
+                reward = -block.at(end, z) if model.is_cost else block.at(end, z)
+                following = row[z]
+                assert following is not None
+                worth += p * (reward + model.discount * values[following][end])
             most = max(most, value - worth)
     return most
 
@@ -121,7 +123,7 @@ class Found(NamedTuple):
     """What a solver finds, with the bound on every policy."""
 
     solution: "Solution"
-    bound: "Bound"
+    bound: "UpperBound"
     most: float
 
 
@@ -154,6 +156,30 @@ class Values(unittest.TestCase):
         self.assertEqual((floor(low * 100), floor(found.most * 100)), (1937, 1937))
         self.assertLess(found.most - low, 0.00003)
         self.assertEqual(len(found.solution.graph.actions), 5)
+
+    def test_a_graph_is_made_better(self) -> None:
+        cells = WholeCells(read_model(read_source(TIGER)))
+        found, bound = solve(cells, Limits(0, 0), lambda: False, lambda _: None)
+        other = better_solution(cells.model, found, Watch(True, can_end_early=False))
+        self.certified(cells.model, Found(other, bound, bound.most(cells) / MILLION))
+        # listening for ever is worth -20
+        self.assertEqual((found.low, floor(other.low / 10_000)), (-20 * MILLION, 1937))
+        self.assertIs(better_solution(cells.model, found, Watch(True, can_end_early=False, seconds=0)), found)
+        with patch("polcert.solutions.evaluate", side_effect=Refusal("what the graph is worth does not settle")):
+            self.assertIs(better_solution(cells.model, found, Watch(True, can_end_early=False)), found)
+
+    def test_without_any_time(self) -> None:
+        """What has to be found is cut off at once, each part of it: it passes its checks all the same."""
+        random_ = random.Random(12)
+        texts = [(EXAMPLES / f"{name}.POMDP").read_bytes() for name in ("tiger", "machine", "stock")]
+        texts += [random_model(random_, exact=True, varied=True).text() for _ in range(10)]
+        with patch("polcert.stopping.LEAST_SECONDS", 0.0), patch("polcert.certificate.LATE_SECONDS", 0.0):
+            for text in texts:
+                model = read_model(Source("M", text))
+                if model.discount < Fraction("0.99"):
+                    cells = WholeCells(model)
+                    found, bound = solve(cells, Limits(0, 0), lambda: True, lambda _: None)
+                    self.certified(model, Found(found, bound, bound.most(cells) / MILLION))
 
     def test_beliefs_that_are_followed(self) -> None:
         random_, steps = random.Random(7), 7
@@ -312,7 +338,7 @@ class Written(OutputTest):
         name = re.escape(str(self.folder / "m"))
         bounds = r"worth 19\.3713\d+ from the start; every policy at most 19\.3713\d+ \(gap 0\.000\d\d %\)"
         self.assertRegex(said.out.decode(), rf"\A{name}\.pg: 5 nodes, {bounds}\n\Z")
-        self.assertRegex(said.err, r"\Apolcert-solve: [0-9]+ s, 3 vectors, 0 points: from -20\.000000 to 87\.179494, gap 535\.9 %\n")
+        self.assertRegex(said.err, r"\Apolcert-solve: [0-9]+ s, 3 vectors, 0 points: from -20\.000000 to 87\.179494, gap 107\.179494\n")
         self.assertEqual(self.solve(TIGER, "-q").err, "")
 
     @needs_program

@@ -2,7 +2,7 @@
 import random
 from fractions import Fraction
 from itertools import permutations
-from math import ceil
+from math import ceil, inf
 from typing import Dict, List, NamedTuple, Optional, Sequence, Tuple
 from unittest.mock import patch
 
@@ -10,7 +10,7 @@ from models import random_model
 from support import EXAMPLES, HAS_NUMPY, NAMES, PROGRAM, TOP, Said, needs_numpy, needs_program, polcert, run_program, run_script
 from test_outputs import PG, TIGER, OutputTest
 from polcert.command import read_source
-from polcert.commands.mend import mended
+from polcert.mending import mended
 from polcert.distances import Distances, distances_of
 from polcert.files import Graph, Model, Row, Source, read_graph, read_model
 from polcert.nearby import Nearby, vectors_near
@@ -73,8 +73,8 @@ class Near(NamedTuple):
         pairs = ((node, state) for node in range(len(vectors)) for state in range(self.model.states.count))
         return next((pair for pair in pairs if self.lack(*pair, vectors) > 0), None)
 
-    def vectors(self) -> List[List[int]]:
-        found = worst_case_vectors(self.model, self.graph, self.distances, Watch(is_quiet=True, can_end_early=False))
+    def vectors(self, seconds: float = inf) -> List[List[int]]:
+        found = worst_case_vectors(self.model, self.graph, self.distances, Watch(is_quiet=True, can_end_early=False, seconds=seconds))
         return [[round(value * MILLION) for value in row] for row in found]
 
     def raised(self, vectors: Sequence[Sequence[int]]) -> List[List[int]]:
@@ -118,6 +118,7 @@ class Vectors(OutputTest):
             vectors = near.vectors()
             self.assertIsNone(near.first_short(vectors), seed)
             self.assertIsNotNone(near.first_short(near.raised(vectors)), seed)
+            self.assertIsNone(near.first_short(near.vectors(seconds=0)), seed)
 
     def test_within_all_limits(self) -> None:
         for name, value in (("MOST_HELD", 0), ("BLOCK_NUMBERS", 1), ("MOST_ROUNDING", 1), ("MOST_EXACT", 0)):
@@ -220,7 +221,8 @@ class Programs(OutputTest):
                 graph = Graph(actions, [[action] * model.observations.count for action in actions])
                 written = Nearby(*made.mend.written.texts())
                 near = Near(model, graph, distances_of(written.within, written.rewards_within))
-                vectors = [[round(value * MILLION) for value in row] for row in vectors_near(model, graph, written, is_quiet=True)]
+                found = vectors_near(model, graph, written, Watch(is_quiet=True, can_end_early=False))
+                vectors = [[round(value * MILLION) for value in row] for row in found]
                 said = self.robust(near, *self.files(near, vectors, made.text))
                 self.assertTrue(said.out.startswith(b"yes: every model within "), (path.name, said))
         self.assertGreater(count, 6)

@@ -48,13 +48,13 @@ _polcert_command() {
   local word=${COMP_WORDS[COMP_CWORD]} words
   case ${1##*/} in
     polcert-bound-vectors) words='-o --output --tolerance --rounds -h --help -V --version' ;;
-    polcert-certify) words='-o --output --seconds --gap --within --near --json --programs -q --quiet -h --help -V --version' ;;
+    polcert-certify) words='-o --output --costs --seconds --gap --within --near --json --programs -q --quiet -h --help -V --version' ;;
     polcert-convert) words='-o --output --json -h --help -V --version' ;;
     polcert-evaluate) words='-o --output --within --percent --rewards-within --at-most -h --help -V --version' ;;
     polcert-graph) words='-o --output --nodes --beliefs --points --rounds --costs --own-vectors --within --tries --dot --json -q --quiet -h --help -V --version' ;;
     polcert-locate) words='--json -h --help -V --version' ;;
     polcert-mend) words='-o --output -q --quiet --within --json -h --help -V --version' ;;
-    polcert-points) words='-o --output --seconds --points --gap --json -q --quiet -h --help -V --version' ;;
+    polcert-points) words='-o --output --seconds --gap --points --json -q --quiet -h --help -V --version' ;;
     polcert-report) words='--bound -o --output --json --html --program -h --help -V --version' ;;
     polcert-solve) words='-o --output --seconds --gap --json -q --quiet -h --help -V --version' ;;
   esac

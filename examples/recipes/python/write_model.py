@@ -7,6 +7,7 @@
 import sys
 
 
+# (Six parameters: the parts of a model, and where it is written.)
 def write_model(out, discount, start, transitions, observations, rewards):
     """Writes a model with the probabilities start[s], transitions[a][s][e] and observations[a][e][z], e the state where an action ends, and the
     rewards rewards[a][s]."""
@@ -16,9 +17,8 @@ def write_model(out, discount, start, transitions, observations, rewards):
     for letter, table in (("T", transitions), ("O", observations)):
         for action, rows in enumerate(table):
             for number, row in enumerate(rows):
-                for column, probability in enumerate(row):
-                    if probability != 0:
-                        print(f"{letter}: {action} : {number} : {column} {float(probability)}", file=out)
+                cells = ((column, float(probability)) for column, probability in enumerate(row) if probability != 0)
+                out.writelines(f"{letter}: {action} : {number} : {column} {probability}\n" for column, probability in cells)
     for action, values in enumerate(rewards):
         for state, value in enumerate(values):
             print(f"R: {action} : {state} : * : * {float(value)}", file=out)

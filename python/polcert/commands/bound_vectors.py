@@ -10,28 +10,13 @@ which is less sharp. It is computed in floating point, with numpy and scipy, and
 too low: raise them.
 """
 import argparse
-from math import inf
 
+from polcert.arguments import integer_from_1, number_above_0
 from polcert.command import Parser, read_source, refuse_overwriting, say, write
 from polcert.files import read_model
 from polcert.needs import needs_numpy
+from polcert.stopping import Stopping
 from polcert.values import ROUNDS, TOLERANCE, refuse_discount_of_1, vectors_text
-
-
-def positive(word: str) -> float:
-    """The argument of --tolerance."""
-    value = float(word)
-    if not 0 < value < inf:
-        raise argparse.ArgumentTypeError(f"{word} is not above 0")
-    return value
-
-
-def count(word: str) -> int:
-    """The argument of --rounds."""
-    value = int(word)
-    if value < 1:
-        raise argparse.ArgumentTypeError(f"{word} is not at least 1")
-    return value
 
 
 def arguments() -> argparse.Namespace:
@@ -39,8 +24,8 @@ def arguments() -> argparse.Namespace:
     parser.add_argument("model", metavar="MODEL", help="a model (.POMDP) with a discount below 1")
     parser.add_argument("-o", "--output", metavar="FILE", help="write the vectors there, and not to standard output")
     near = f"how near the iteration comes to its limit; default {TOLERANCE}"
-    parser.add_argument("--tolerance", metavar="X", type=positive, default=TOLERANCE, help=near)
-    parser.add_argument("--rounds", metavar="N", type=count, default=ROUNDS, help=f"the most rounds of each iteration; default {ROUNDS:,}")
+    parser.add_argument("--tolerance", metavar="X", type=number_above_0, default=TOLERANCE, help=near)
+    parser.add_argument("--rounds", metavar="N", type=integer_from_1(), default=ROUNDS, help=f"the most rounds of each iteration; default {ROUNDS:,}")
     return parser.parse_args()
 
 
@@ -52,7 +37,7 @@ def main() -> int:
     with needs_numpy():
         from polcert.arrays import arrays_of
         from polcert.informed import informed_bound
-    vectors, above = informed_bound(arrays_of(model), words.tolerance, words.rounds)
+    vectors, above = informed_bound(arrays_of(model), Stopping(words.tolerance, words.rounds))
     write(vectors_text(range(len(vectors)), vectors.tolist()), words.output)
     if above > words.tolerance:
         say(f"polcert-bound-vectors: stopped early, so that values may be {above:.6f} higher than they have to be")

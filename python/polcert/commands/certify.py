@@ -4,33 +4,42 @@
     polcert-certify M.POMDP POLICY -o DIR    certifies a policy: a graph (.pg), or what else polcert-graph takes
 
 A model in POMDPX is converted first, as by polcert-convert, and one whose rows sum to one only nearly is mended, as by polcert-mend; then all
-is about the model that this makes. DIR gets the model, the
-graph with its vectors, lowered and raised so that polcert says yes to them, a bound on every policy, and a report, each named for the
-model. The proved programs answer; what is computed here only has to pass. With --near polcert_robust answers for every model whose
-probabilities lie so near, and for a mended model, if it is there, for the model as it was written too.
+is about the model that this makes. DIR gets the model, the graph with its vectors, lowered and raised so that polcert says yes to them, a
+bound on every policy, and a report, each named for the model. The proved programs answer; what is computed here only has to pass. With
+--near polcert_robust answers for every model whose probabilities lie so near, and for a mended model, if it is there, for the model as it
+was written too.
 
 Standard error has a line for each step, with its seconds. Standard output has what is certified, or with --json the report as JSON. The
 exit status is 0 if a lower bound is certified, and 1 if there is none. An interrupt (Ctrl-C) ends the search early.
 """
 import argparse
 import os
-from typing import Dict
+import shutil
+from time import monotonic
+from typing import Dict, List, Optional
 
 from polcert import programs
-from polcert.certification import NEAR, WRITTEN, Certifier, Step, Uncertified
-from polcert.certification_report import json_of, markdown_of
-from polcert.command import Parser, Refusal, read_source, refuse_overwriting, say, show, write_files
-from polcert.commands.mend import amount as probability
-from polcert.commands.points import amount
-from polcert.commands.report import Program
-from polcert.controllers import BoundTexts, Search, bound_for, given_controller, solved_controller
+from polcert.arguments import add_costs, add_search_limits, exact_number_from_0
+from polcert.certification import Certifier, Step, Uncertified
+from polcert.certification_report import certificate_json, markdown_of
+from polcert.command import Parser, Refusal, read_source, refuse_overwriting, refuse_unwritable_folder, say, show, write_files
+from polcert.controllers import BoundTexts, Search, bound_for, given_controller, left_after, read_controller, solved_controller
+from polcert.costs import sign_advice
 from polcert.distances import nearness
+from polcert.files import Model
+from polcert.mending import DEFAULT_WITHIN
 from polcert.needs import needs_numpy
 from polcert.points import WholeCells
+from polcert.policies import GraphOrVectors
+from polcert.recorded_programs import Program
 from polcert.signals import Interrupt
+from polcert.stopping import LEAST_SECONDS
+from polcert.tokens import Source
 from polcert.values import refuse_discount_of_1
+from polcert.watch import Watch
 
-SECONDS, PERCENT = 30.0, 0.00001
+# The worst of all models near is searched for at most this part of the time.
+NEAR_PART = 0.25
 ENDINGS = ("POMDP", "pg", "alpha", "lowered.alpha", "raised.alpha", "bound.alpha", "bound.points", "near.alpha", "written.alpha", "report.md",
            "report.json")
 
@@ -42,6 +51,8 @@ class Work:
         self.words, self.given = words, [read_source(name) for name in (words.model, words.policy) if name is not None]
         self.is_quiet, self.interrupt = words.quiet, Interrupt()
         self.certifier = Certifier(stem(words.model), words.within, words.programs, self.report)
+        self.programs: List[Program] = []
+        self.robust: Optional[Program] = None
 
     def report(self, step: Step) -> None:
         if not self.is_quiet:
@@ -53,22 +64,26 @@ class Work:
             programs.found(self.certifier.polcert_robust)  # (before anything takes long)
         model = self.certifier.read_model(self.given[0])
         refuse_discount_of_1(model)
+        # what they are before they answer, so that none changes unseen
+        self.programs = [Program(programs.found(name)) for name in (self.certifier.polcert, self.certifier.polcert_bound)]
+        self.robust = Program(self.certifier.polcert_robust) if shutil.which(self.certifier.polcert_robust) else None
         try:
             bound = self.certify_controller(WholeCells(model))
         except Uncertified as fault:
-            say(f"polcert-certify: no lower bound: {fault}")
+            self.certifier.lacks("no lower bound", fault)
             return False
         try:
             self.certifier.certify_bound(model.source.text, bound.vectors, bound.points)
         except Uncertified as fault:
-            say(f"polcert-certify: no bound on every policy: {fault}")
+            self.certifier.lacks("no bound on every policy", fault)
         if self.words.near is not None:
-            self.certifier.certify_near(self.words.near, model, self.is_quiet)
-        self.certifier.certify_written(model, self.is_quiet)
-        for about, near in ((NEAR, self.certifier.found.near), (WRITTEN, self.certifier.found.written)):
-            if near is not None and near.low is None:
-                say(f"polcert-certify: no certificate of {about.words}: {near.why_not}")
+            self.certifier.certify_near(self.words.near, model, self.watch())
+        self.certifier.certify_written(model, self.watch())
         return True
+
+    def watch(self) -> Watch:
+        """Ends the search for the worst of all models near after a part of the time."""
+        return Watch(self.is_quiet, can_end_early=False, seconds=max(LEAST_SECONDS, NEAR_PART * self.words.seconds))
 
     def certify_controller(self, cells: WholeCells) -> BoundTexts:
         """Certifies the controller, and returns a bound on every policy."""
@@ -77,26 +92,36 @@ class Work:
         if words.policy is None:
             controller, bound = solved_controller(cells, search)
             self.certifier.done("solve", controller.line)
-            self.certifier.certify(model.source.text, controller)
+            self.certifier.certify(model, controller)
         else:
-            controller = given_controller(self.given[1], model, words.quiet)
+            begin = monotonic()
+            controller = given_controller(self.read_policy(self.given[1], model), model, search)
+            search = left_after(search, monotonic() - begin)
             self.certifier.done("graph", controller.line)
-            self.certifier.certify(model.source.text, controller)
+            self.certifier.certify(model, controller)
             bound = bound_for(cells, search)
             self.certifier.done("search", bound.line)
+        if self.interrupt.is_there:
+            self.certifier.done("interrupt", "the search was ended early")
         return bound
+
+    def read_policy(self, source: Source, model: Model) -> GraphOrVectors:
+        """Reads POLICY, and says a line of advice if its numbers seem to have the wrong sign."""
+        found = read_controller(source, model, self.words.costs)
+        advice = sign_advice(source, found, model, self.words.costs)
+        if advice:
+            say(f"polcert-certify: {advice}")
+        return found
 
     def texts(self) -> Dict[str, bytes]:
         """The files of the certificate and its reports, by their names."""
         given: Dict[str, bytes] = {source.name: source.text for source in self.given}
         found = self.certifier.found
-        names = [self.certifier.polcert, self.certifier.polcert_bound]
-        if any(near is not None and near.low is not None for near in (found.near, found.written)):
-            names.append(self.certifier.polcert_robust)
-        answered = [Program(program).about() for program in names]
+        is_near = any(near is not None and near.low is not None for near in (found.near, found.written))
+        answered = [program.about() for program in [*self.programs, *([self.robust] if self.robust and is_near else [])]]
         texts = dict(found.files)
         texts[f"{found.name}.report.md"] = markdown_of(found, given, answered).encode()
-        texts[f"{found.name}.report.json"] = json_of(found, given, answered).encode()
+        texts[f"{found.name}.report.json"] = certificate_json(found, given, answered).encode()
         return texts
 
 
@@ -113,34 +138,43 @@ def arguments() -> argparse.Namespace:
     parser.add_argument("model", metavar="MODEL", help="a model (.POMDP or .pomdpx) with a discount below 1")
     parser.add_argument("policy", metavar="POLICY", nargs="?", help="a policy to certify; without one the model is solved")
     parser.add_argument("-o", "--output", metavar="DIR", required=True, help="write the files into this folder, which is made if it is missing")
-    parser.add_argument("--seconds", metavar="N", type=amount, default=SECONDS, help=f"search so long at most; default {SECONDS:.0f}")
-    near = f"search until the gap is so many percent of the lower bound; default {PERCENT:.5f}"
-    parser.add_argument("--gap", metavar="PERCENT", type=amount, default=PERCENT, help=near)
+    add_costs(parser, "POLICY")
+    add_search_limits(parser, seconds=30.0)
     most = "the most that mending may move a probability; default 0.00001"
-    parser.add_argument("--within", metavar="X", type=probability, default=probability("0.00001"), help=most)
+    parser.add_argument("--within", metavar="X", type=exact_number_from_0, default=DEFAULT_WITHIN, help=most)
     parser.add_argument("--near", metavar="X", type=nearness, help="certify every model whose probabilities lie so near: 0.01, or 5%% of themselves")
     parser.add_argument("--json", action="store_true", help="write the report as JSON to standard output")
     parser.add_argument("--programs", metavar="DIR", default="", help="the folder of polcert, polcert_bound and polcert_robust; default: the path")
     parser.add_argument("-q", "--quiet", action="store_true", help="no lines of progress")
-    return parser.parse_args()
+    words = parser.parse_args()
+    if words.costs and words.policy is None:
+        parser.error("--costs goes with POLICY")
+    return words
 
 
 def main() -> int:
     words = arguments()
     names = [os.path.join(words.output, f"{stem(words.model)}.{ending}") for ending in ENDINGS]
     refuse_overwriting([name for name in (words.model, words.policy) if name is not None], names)
+    refuse_unwritable_folder(words.output, names)
     with needs_numpy():
         import numpy  # noqa: F401
         import scipy  # noqa: F401
-    work = Work(words)
     try:
+        work = Work(words)
         is_certified = work.run()
         texts = work.texts()
     except programs.ProgramError as fault:
         raise Refusal(str(fault)) from None
     os.makedirs(words.output, exist_ok=True)
-    write_files({os.path.join(words.output, name): text for name, text in texts.items()})
+    written = {os.path.join(words.output, name): text for name, text in texts.items()}
+    write_files(written)
+    for name in names:
+        if name not in written and os.path.exists(name):
+            say(f"polcert-certify: {name} is left from an earlier run")
     found = work.certifier.found
+    for missing in found.missing:
+        say(f"polcert-certify: {missing}")
     line = f"{found.name}{' (mended)' if found.is_mended else ''}: {'; '.join(found.sentences()) or 'nothing is certified'}\n"
     show(texts[f"{found.name}.report.json"].decode() if words.json else line)
     return 0 if is_certified else 1

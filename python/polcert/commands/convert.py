@@ -7,30 +7,11 @@ A state is a combination of the values of the state variables, in their order, t
 state variable with fullyObs is a part of each observation, but it is not seen before the first action; if all are, and nothing else is seen,
 the model is an MDP. Rewards are summed. Numbers are exact decimals, if they are decimals at all.
 """
-import re
-from typing import Dict
-
 from polcert.command import Parser, Refusal, read_source, refuse_json_beside_text, refuse_overwriting, say, show, write
-from polcert.flattening import Flattener
+from polcert.conversion import converted, counts_of, summary_of_conversion
 from polcert.json_output import json_text
-from polcert.pomdpx import is_pomdpx, read_pomdpx
+from polcert.pomdpx import is_pomdpx
 from polcert.tokens import Source
-
-
-def converted(source: Source) -> bytes:
-    """The text of a .POMDP file. Raises FileError or Refusal."""
-    return Flattener(read_pomdpx(source)).text()
-
-
-def counts_of(source: Source) -> Dict[str, int]:
-    """How many states, actions and observations a converted model has."""
-    found = re.findall(rb"^(states|actions|observations): (.*)$", source.text, re.M)
-    return {kind.decode(): int(names) if names.isdigit() else len(names.split()) for kind, names in found}
-
-
-def summary_of_conversion(source: Source) -> str:
-    """What a converted model has, in one line."""
-    return ", ".join(f"{count:,} {kind}" for kind, count in counts_of(source).items())
 
 
 def main() -> int:

@@ -21,42 +21,21 @@ More nodes, beliefs, points and rounds take longer and find more. Standard error
 the search early, and the best graph so far is written, unless a second one comes.
 
 With --own-vectors M.alpha has the solver's own vectors and M.pg a node for each of them. Once they are lowered, polcert's yes holds of
-whoever keeps a belief and takes the action of the best of these vectors there. Vectors that no successors back are left out and named:
+a policy that keeps a belief and takes the action of the best of these vectors there. Vectors that no successors back are left out and named:
 they must not be run.
 """
 import argparse
 
-from polcert.command import Parser, Refusal, read_source, refuse_overwriting, refuse_unwritable
+from polcert.arguments import add_costs, add_json_and_quiet, integer_from_1, number_from_0
+from polcert.command import Parser, Refusal, read_source, refuse_overwriting, refuse_unwritable, say
 from polcert.controllers import read_controller
+from polcert.costs import sign_advice
 from polcert.files import MOST_NODES, Graph, read_model
+from polcert.graph_limits import GraphLimits
 from polcert.needs import needs_numpy
 from polcert.values import LARGEST_VALUE, refuse_undiscounted
 
-NODES, BELIEFS, POINTS, ROUNDS, TRIES = 1000, 5000, 100, 20, 20_000_000
-
-
-def count(word: str) -> int:
-    """The argument of --rounds, --beliefs, --points and --tries."""
-    value = int(word)
-    if value < 1:
-        raise argparse.ArgumentTypeError(f"{word} is not at least 1")
-    return value
-
-
-def node_count(word: str) -> int:
-    """The argument of --nodes."""
-    value = int(word)
-    if not 1 <= value <= MOST_NODES:
-        raise argparse.ArgumentTypeError(f"{word} is not from 1 to {MOST_NODES:,}")
-    return value
-
-
-def amount(word: str) -> float:
-    """The argument of --within."""
-    value = float(word)
-    if not 0 <= value <= LARGEST_VALUE:
-        raise argparse.ArgumentTypeError(f"{word} is not from 0 to 10,000,000")
-    return value
+LIMITS, TRIES = GraphLimits(), 20_000_000
 
 
 def arguments() -> argparse.Namespace:
@@ -64,22 +43,22 @@ def arguments() -> argparse.Namespace:
     parser.add_argument("model", metavar="MODEL", help="a model (.POMDP) with a discount below 1")
     parser.add_argument("solved", metavar="SOLVED", help="vectors, a policy, or a graph of a solver")
     parser.add_argument("-o", "--output", metavar="NAME", required=True, help="write NAME.pg and NAME.alpha")
-    parser.add_argument("--nodes", metavar="N", type=node_count, default=NODES, help=f"the most nodes of the graph; default {NODES}")
-    followed = f"how many beliefs are followed to meet vectors; default {BELIEFS}"
-    parser.add_argument("--beliefs", metavar="N", type=count, default=BELIEFS, help=followed)
-    points = f"at how many beliefs nodes are added, beside one for each vector; default {POINTS}"
-    parser.add_argument("--points", metavar="N", type=count, default=POINTS, help=points)
-    rounds = f"how often at most successors are chosen again, and nodes are added; default {ROUNDS}"
-    parser.add_argument("--rounds", metavar="N", type=count, default=ROUNDS, help=rounds)
-    parser.add_argument("--costs", action="store_true", help="the numbers of SOLVED are costs: less is better")
+    nodes = f"the most nodes of the graph; default {LIMITS.nodes}"
+    parser.add_argument("--nodes", metavar="N", type=integer_from_1(MOST_NODES), default=LIMITS.nodes, help=nodes)
+    followed = f"how many beliefs are followed to meet vectors; default {LIMITS.beliefs}"
+    parser.add_argument("--beliefs", metavar="N", type=integer_from_1(), default=LIMITS.beliefs, help=followed)
+    points = f"at how many beliefs nodes are added, beside one for each vector; default {LIMITS.points}"
+    parser.add_argument("--points", metavar="N", type=integer_from_1(), default=LIMITS.points, help=points)
+    rounds = f"how often at most successors are chosen again, and nodes are added; default {LIMITS.rounds}"
+    parser.add_argument("--rounds", metavar="N", type=integer_from_1(), default=LIMITS.rounds, help=rounds)
+    add_costs(parser, "SOLVED")
     parser.add_argument("--own-vectors", action="store_true", help="write the solver's own vectors, and a graph that backs them")
     short = "how short of one step a vector of --own-vectors may be; default a ten-thousandth of the greatest value"
-    parser.add_argument("--within", metavar="W", type=amount, help=short)
+    parser.add_argument("--within", metavar="W", type=number_from_0(LARGEST_VALUE), help=short)
     tries = f"how many successors are tried for a vector of --own-vectors, times the states; default {TRIES}"
-    parser.add_argument("--tries", metavar="N", type=count, help=tries)
+    parser.add_argument("--tries", metavar="N", type=integer_from_1(), help=tries)
     parser.add_argument("--dot", action="store_true", help="write NAME.dot too, the graph for Graphviz")
-    parser.add_argument("--json", action="store_true", help="write the result as JSON to standard output")
-    parser.add_argument("-q", "--quiet", action="store_true", help="no lines of progress")
+    add_json_and_quiet(parser)
     words = parser.parse_args()
     for word in ("within", "tries"):
         if getattr(words, word) is not None and not words.own_vectors:
@@ -96,7 +75,10 @@ def main() -> int:
     model = read_model(read_source(words.model))
     refuse_undiscounted(model)
     source = read_source(words.solved)
-    found = read_controller(source, model)
+    found = read_controller(source, model, words.costs)
+    advice = sign_advice(source, found, model, words.costs)
+    if advice:
+        say(f"polcert-graph: {advice}")
     if words.own_vectors and isinstance(found, Graph):
         raise Refusal("--own-vectors takes vectors, and these are the nodes of a graph")
     with needs_numpy():

@@ -15,9 +15,9 @@ from typing import Dict, Iterable, List, NamedTuple, Optional
 from polcert.advice import advice
 from polcert.answers import Refused, refused_of
 from polcert.command import GZIP, Parser, Refusal, read_lines, read_source, show
-from polcert.commands.mend import off_one, shown
 from polcert.files import ITEM_WORDS, FileError, Model, Table, place_of_row, read_model
 from polcert.json_output import json_text
+from polcert.mending import nine_digits, off_one
 from polcert.tokens import BAD, END, NAME, Cursor, Source, Token, printable, quoted, token_at
 
 WIDEST = 100
@@ -95,7 +95,7 @@ def notes_of_item(source: Source, refusal: Refused) -> List[str]:
 
 def notes_of_start(model: Model) -> List[str]:
     total = sum(model.start.numbers.values, Fraction(0))
-    return [f"The start sums to {shown(total)}, {off_one(total)}."] if total != 1 and model.start.kind == "numbers" else []
+    return [f"The start sums to {nine_digits(total)}, {off_one(total)}."] if total != 1 and model.start.kind == "numbers" else []
 
 
 def word_of_item(source: Source, number: int) -> Optional[Token]:
@@ -154,7 +154,7 @@ def notes_of_row(model: Model, table: Table, action: int, row: int) -> List[str]
     lines = sorted({model.source.position(entry.begin)[0] for entry in visible})
     where = f"line{'s' if len(lines) > 1 else ''} {', '.join(map(str, lines[-5:]))}{' and before' if len(lines) > 5 else ''}"
     total = sum(table.row(action, row).values(), Fraction(0))
-    return [f"The row {name} sums to {shown(total)}, {off_one(total)}. It is given in {where}."]
+    return [f"The row {name} sums to {nine_digits(total)}, {off_one(total)}. It is given in {where}."]
 
 
 def letter_and_names(model: Model, table: Table, action: int, row: int) -> str:
@@ -182,8 +182,8 @@ def pointed(source: Source, byte: int) -> List[str]:
     line, column = source.line_at(byte).replace("\t", " "), source.position(byte)[1] - 1
     first = max(0, column - WIDEST // 2) if len(line) > WIDEST else 0
     before, after = "..." if first else "", "..." if len(line) > first + WIDEST else ""
-    shown = before + "".join(sign if sign.isprintable() else "?" for sign in line[first : first + WIDEST]) + after
-    return [f"    {shown}", "    " + " " * (len(before) + column - first) + "^"]
+    window = before + "".join(sign if sign.isprintable() else "?" for sign in line[first : first + WIDEST]) + after
+    return [f"    {window}", "    " + " " * (len(before) + column - first) + "^"]
 
 
 def refusal_of(line: str) -> Optional[Refused]:

@@ -12,90 +12,44 @@ Standard error has both bounds every few seconds. The last line, on standard out
 in it is computed in floating point and not certified.
 """
 import argparse
-from math import inf
-from time import monotonic
 from typing import TYPE_CHECKING
 
+from polcert.arguments import add_json_and_quiet, add_search_limits, integer_from_1
 from polcert.command import Parser, read_source, refuse_overwriting, refuse_unwritable, say, show, write_files
 from polcert.files import MILLION, read_model
+from polcert.gaps import gap_in_words
 from polcert.json_output import json_text
 from polcert.needs import needs_numpy
 from polcert.points import MOST_POINTS, WholeCells
+from polcert.search_progress import SearchProgress
 from polcert.signals import Interrupt
-from polcert.tokens import decimal
+from polcert.tokens import decimal, quantity
 from polcert.values import refuse_discount_of_1
 
 if TYPE_CHECKING:
-    from polcert.solutions import Bound
-    from polcert.solver import Solver
-
-SECONDS, PERCENT = 40.0, 0.00001
-# A line of progress is written each so many seconds.
-PROGRESS_SECONDS = 5.0
+    from polcert.solutions import UpperBound
 
 
-class Progress:
-    """Writes a line about the search, and then one every few seconds."""
-
-    def __init__(self, is_quiet: bool) -> None:
-        self._begin, self._next = 0.0, inf if is_quiet else 0.0
-
-    def report(self, solver: "Solver") -> None:
-        now = monotonic()
-        self._begin = self._begin or now
-        if now >= self._next:
-            self._next = now + PROGRESS_SECONDS
-            bounds = f"from {solver.low:.6f} to {solver.high:.6f}, gap {gap(solver.low, solver.high)}"
-            say(f"polcert-points: {now - self._begin:.0f} s, {solver.upper.count:,} points: {bounds}")
-
-
-def gap(low: float, high: float) -> str:
-    """The gap between bounds in percent of the lower one."""
-    if abs(low) < 1e-9:
-        return f"{max(0.0, high - low):.6f}"
-    percent = 100 * max(0.0, high - low) / abs(low)
-    return f"{percent:.{5 if percent < 0.01 else 3 if percent < 1 else 1}f} %"
-
-
-def bound_of(cells: WholeCells, words: argparse.Namespace) -> "Bound":
+def bound_of(cells: WholeCells, words: argparse.Namespace) -> "UpperBound":
     """The bound that is found within the limits, or before an interrupt."""
-    from polcert.solutions import bound
+    from polcert.solutions import upper_bound
     from polcert.solver import Limits
 
     interrupt, limits = Interrupt(), Limits(words.seconds, words.gap / 100, words.points)
-    found = bound(cells, limits, lambda: interrupt.is_there, Progress(words.quiet).report)
+    found = upper_bound(cells, limits, lambda: interrupt.is_there, SearchProgress(words.quiet).report)
     if interrupt.is_there:
         say("polcert-points: interrupted: what was found so far is written")
     return found
-
-
-def amount(word: str) -> float:
-    """The argument of --seconds and --gap."""
-    value = float(word)
-    if not 0 <= value < inf:
-        raise argparse.ArgumentTypeError(f"{word} is not at least 0")
-    return value
-
-
-def count(word: str) -> int:
-    """The argument of --points."""
-    value = int(word)
-    if not 1 <= value <= MOST_POINTS:
-        raise argparse.ArgumentTypeError(f"{word} is not from 1 to {MOST_POINTS:,}")
-    return value
 
 
 def arguments() -> argparse.Namespace:
     parser = Parser("polcert-points", __doc__)
     parser.add_argument("model", metavar="MODEL", help="a model (.POMDP) with a discount below 1")
     parser.add_argument("-o", "--output", metavar="NAME", required=True, help="write NAME.alpha and NAME.points")
-    parser.add_argument("--seconds", metavar="N", type=amount, default=SECONDS, help=f"search so long at most; default {SECONDS:.0f}")
+    add_search_limits(parser, seconds=40.0)
     most = f"search so many points at most; default {MOST_POINTS:,}"
-    parser.add_argument("--points", metavar="N", type=count, default=MOST_POINTS, help=most)
-    near = f"search until the gap is so many percent of the lower bound; default {PERCENT:.5f}"
-    parser.add_argument("--gap", metavar="PERCENT", type=amount, default=PERCENT, help=near)
-    parser.add_argument("--json", action="store_true", help="write the result as JSON to standard output")
-    parser.add_argument("-q", "--quiet", action="store_true", help="no lines of progress")
+    parser.add_argument("--points", metavar="N", type=integer_from_1(MOST_POINTS), default=MOST_POINTS, help=most)
+    add_json_and_quiet(parser)
     return parser.parse_args()
 
 
@@ -115,7 +69,6 @@ def main() -> int:
         bound_of_all = {"at_most": decimal(most)}
         show(json_text("polcert-points", files=names, points=size, every_policy=bound_of_all, uncertified_lower_bound=round(found.low, 6)))
         return 0
-    points = f"{size:,} point{'' if size == 1 else 's'}"
-    bounds = f"lower bound {found.low:.6f}, gap {gap(found.low, most / MILLION)}"
-    show(f"{names[1]}: {points}, every policy at most {decimal(most)} ({bounds})\n")
+    bounds = f"lower bound {found.low:.6f}, gap {gap_in_words(found.low, most / MILLION)}"
+    show(f"{names[1]}: {quantity(size, 'point')}, every policy at most {decimal(most)} ({bounds})\n")
     return 0

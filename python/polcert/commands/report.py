@@ -8,21 +8,20 @@ The vectors are lowered and raised as polcert does, so that each node gets a low
 polcert_bound says of vectors that bound every policy. Nothing of this script is proved: it runs polcert, and computes with its own reader
 what it shows of single nodes and terms. The exit status is 1 if `polcert check`, or with --bound polcert_bound, answers no.
 """
-import hashlib
 import os
-import shutil
-import subprocess
 from fractions import Fraction
 from math import ceil, floor
-from pathlib import Path
 from typing import Dict, Iterator, List, NamedTuple, Optional, Sequence
 
 from polcert.answers import Yes, verdict_of
-from polcert.command import Parser, Refusal, own_folder, read_source, refuse_overwriting, write
+from polcert.command import Parser, own_folder, read_source, refuse_overwriting, write
 from polcert.files import MILLION, Source, read_graph, read_model, read_vectors
+from polcert.gaps import gap_between
 from polcert.html_report import controller, html_of, page, values_over_beliefs
 from polcert.json_output import json_text
-from polcert.tokens import decimal, printable
+from polcert.recorded_programs import Program, Ran, one_line
+from polcert.report_fields import decimal_or_none, sha256
+from polcert.tokens import decimal, quantity, table_cell
 
 # Of the terms of an inequality, so many are shown, the largest first.
 MOST_TERMS = 20
@@ -34,71 +33,12 @@ where they end, is at least (for the upper bound: at most) the vector's value, e
 successor. polcert's checker is formally verified: this sentence is proved about the bytes of the three files, for every yes."""
 
 
-class Ran(NamedTuple):
-    """What a program wrote: its exit status, standard output and standard error."""
-
-    status: int
-    out: bytes
-    err: bytes
-
-    def line(self) -> str:
-        """The one line that answers: a verdict or a refusal."""
-        return one_line(self.out or self.err)
-
-
-class Program:
-    """A program, and the SHA-256 of its bytes."""
-
-    def __init__(self, name: str) -> None:
-        self.name, self.path = name, shutil.which(name) or name
-        self.sum = sha256(read_source(self.path))
-
-    def run(self, *words: str) -> Ran:
-        """A run that has to give a yes or a no, or lowered or raised vectors if there are any."""
-        done = subprocess.run([self.path, *words], stdin=subprocess.DEVNULL, stdout=subprocess.PIPE, stderr=subprocess.PIPE)
-        ran = Ran(done.returncode, done.stdout, done.stderr)
-        if ran.status not in (0, 1) or not ran.line():
-            raise Refusal(f"{self.name} {words[0]}: {ran.line() or f'ended with status {ran.status} and no answer'}")
-        return ran
-
-    def about(self) -> str:
-        """Which program it is, and whether a proof of its bytes is recorded. Raises Refusal if it changed."""
-        if sha256(read_source(self.path)) != self.sum:
-            raise Refusal(f"{self.path}: the program changed while the report was written")
-        proof = "proved" if self.sum in proved_sums() else "of which no proof is recorded here: write the report again with a proved one"
-        version = self.run("--version")
-        if version.status:
-            raise Refusal(f"{self.name} --version: ended with status {version.status}")
-        return f"{version.line()} (SHA-256 `{self.sum}`), {proof}"
-
-
-def sha256(source: Source) -> str:
-    return hashlib.sha256(source.text).hexdigest()
-
-
-def proved_sums() -> List[str]:
-    """The sums of the programs of which a proof is recorded: beside this script if it is installed, else where `make program` leaves it."""
-    top = Path(__file__).resolve().parents[3]
-    records = [top / "proved", *(top.glob("crates/*/out/*.proved"))]
-    lines = [line.split() for record in records if record.is_file() for line in record.read_text().splitlines()]
-    return [words[1] for words in lines if len(words) == 2 and words[0] == "program"]
-
-
-def one_line(text: bytes) -> str:
-    return printable(text.decode(errors="replace").strip())
-
-
-def cell(name: str) -> str:
-    """A file's name in a table, with escapes for what would end the name, the cell or the line."""
-    return printable("".join(f"\\x{ord(sign):02x}" if sign in "\\`|" else sign for sign in name))
-
-
 def row_of_file(source: Source) -> str:
     """A file's row in the table, with the sum of the text that polcert gets."""
-    return f"| `{cell(source.name)}`{' (decompressed)' if source.is_compressed else ''} | `{sha256(source)}` |"
+    return f"| `{table_cell(source.name)}`{' (decompressed)' if source.is_compressed else ''} | `{sha256(source.text)}` |"
 
 
-class Bound(NamedTuple):
+class MovedVectors(NamedTuple):
     """Vectors that polcert moved to pass from one side: the constant in words, the verdict, and the values in millionths."""
 
     moved: str
@@ -106,11 +46,11 @@ class Bound(NamedTuple):
     values: List[List[int]]
 
 
-class Bounds(NamedTuple):
+class Sides(NamedTuple):
     """Both sides; None if no constant helps."""
 
-    lower: Optional[Bound]
-    upper: Optional[Bound]
+    lower: Optional[MovedVectors]
+    upper: Optional[MovedVectors]
 
 
 class Term(NamedTuple):
@@ -144,14 +84,14 @@ class Reporter:
         write(text, name)
         return name
 
-    def bound(self, word: str, check: Sequence[str]) -> Optional[Bound]:
+    def bound(self, word: str, check: Sequence[str]) -> Optional[MovedVectors]:
         """The vectors lowered or raised, and the verdict on them. None if no constant helps."""
         ran = self.program.run(word, *self.copies)
         if ran.status:
             return None
         verdict = self.program.run("check", *check, *self.copies[:2], self.copy(word, ran.out)).line()
         vectors = read_vectors(Source(word, ran.out), self.model, self.graph)
-        return Bound(one_line(ran.err), verdict, [[int(value * MILLION) for value in vector.values] for vector in vectors])
+        return MovedVectors(one_line(ran.err), verdict, [[int(value * MILLION) for value in vector.values] for vector in vectors])
 
     def report(self) -> str:
         """The report as Markdown."""
@@ -165,10 +105,10 @@ class Reporter:
             parts.append(values_over_beliefs(self.model, [[value / MILLION for value in values] for values in bounds.lower.values]))
         return page(f"Certificate of {self.sources[0].name}", parts)
 
-    def bounds(self) -> Bounds:
-        return Bounds(self.bound("lower", []), self.bound("raise", ["--at-most"]))
+    def bounds(self) -> Sides:
+        return Sides(self.bound("lower", []), self.bound("raise", ["--at-most"]))
 
-    def markdown(self, answers: str, bounds: Bounds) -> str:
+    def markdown(self, answers: str, bounds: Sides) -> str:
         parts = [answers]
         if bounds.lower and bounds.upper:
             parts.append(self.interval(bounds.lower, bounds.upper))
@@ -181,7 +121,7 @@ class Reporter:
     def head(self) -> str:
         lines = ["# Certificate", "", "| File | SHA-256 |", "|---|---|"]
         lines += [row_of_file(source) for source in [*self.sources, *([self.every] if self.every else [])]]
-        lines += ["", f"{self.program.run('model', self.copies[0]).line()}.", f"{len(self.graph.actions)} nodes.", ""]
+        lines += ["", f"{self.program.run('model', self.copies[0]).line()}.", f"{quantity(len(self.graph.actions), 'node')}.", ""]
         lines += [f"Checked by {self.program.about()}.", "", PROMISE, ""]
         return "\n".join(lines)
 
@@ -196,7 +136,7 @@ class Reporter:
 
     # The interval
 
-    def interval(self, lower: Bound, upper: Bound) -> str:
+    def interval(self, lower: MovedVectors, upper: MovedVectors) -> str:
         weights = self.model.start_weights()
         lines = ["## The interval", "", f"- {lower.moved}: {lower.verdict}", f"- {upper.moved}: {upper.verdict}", ""]
         lines += ["What each node is worth at the model's start:", "", "| Node | Action | At least | At most |", "|---|---|---|---|"]
@@ -225,9 +165,9 @@ class Reporter:
         """The report without the terms of a no; exact numbers are strings of decimals."""
         verdicts = [{"command": f"polcert {' '.join(words)}", "line": self.verdict(words).line()} for words in CHECKS]
         lower, upper = self.bounds()
-        low, high = (amount_of(found.verdict) if found else None for found in (lower, upper))
+        low, high = (yes_of(found.verdict) if found else None for found in (lower, upper))
         every = self.run_bound(self.every, self.bound_program).line() if self.every and self.bound_program else None
-        most = amount_of(every) if every else None
+        most = yes_of(every) if every else None
         given = [*self.sources, *([self.every] if self.every else [])]
         programs = [self.program, *([self.bound_program] if self.bound_program else [])]
         return json_text(
@@ -236,12 +176,13 @@ class Reporter:
             verdicts=verdicts,
             lowered=lower and {"line": lower.moved, "verdict": lower.verdict},
             raised=upper and {"line": upper.moved, "verdict": upper.verdict},
-            controller={"at_least": decimal_or_none(low), "at_most": decimal_or_none(high)},
-            width=decimal_or_none(None if low is None or high is None else high - low),
+            controller={"start_node": low and low.node, "at_least": amount_of(low), "at_most": amount_of(high)},
+            width=gap_of(low, high),
             nodes=[self.node_fields(node, lower, upper) for node in range(len(self.graph.actions))],
-            every_policy=every and {"line": every, "at_most": decimal_or_none(most)},
-            gap=decimal_or_none(None if low is None or most is None else max(Fraction(0), most - low)),
-            files=[{"name": source.name, "sha256": sha256(source), "decompressed": source.is_compressed} for source in given],
+            every_policy=every and {"line": every, "at_most": amount_of(most)},
+            # (with discount 1 each bound counts other vectors' values at the end)
+            gap=gap_of(low, most) if self.model.discount < 1 else None,
+            files=[{"name": source.name, "sha256": sha256(source.text), "decompressed": source.is_compressed} for source in given],
             programs=[program.about() for program in programs],
         )
 
@@ -250,7 +191,7 @@ class Reporter:
         self.is_no |= ran.status > 0 and words == ["check"]
         return ran
 
-    def node_fields(self, node: int, lower: Optional[Bound], upper: Optional[Bound]) -> Dict[str, object]:
+    def node_fields(self, node: int, lower: Optional[MovedVectors], upper: Optional[MovedVectors]) -> Dict[str, object]:
         weights = self.model.start_weights()
         least = decimal(floor(mean(weights, lower.values[node]))) if lower else None
         most = decimal(ceil(mean(weights, upper.values[node]))) if upper else None
@@ -268,12 +209,12 @@ class Reporter:
         name, action = self.model.states.label(state), self.model.actions.label(self.graph.actions[node])
         sign = "at least" if is_above else "at most"
         lines = [f"  In node {node} and state {name} the action is {action}. The vector's value is {decimal(value)}, and it has to be {sign}"]
-        lines += [f"  the sum of these terms, {shown(total / MILLION)}; it is {shown(abs(value - total) / MILLION)} off.", ""]
+        lines += [f"  the sum of these terms, {nine_decimals(total / MILLION)}; it is {nine_decimals(abs(value - total) / MILLION)} off.", ""]
         lines += ["  | End state | Observation | Probability | Reward | Successor | Its value | Term |", "  |---|---|---|---|---|---|---|"]
         lines += [self.row(term, is_above) for term in terms[:MOST_TERMS]]
         if len(terms) > MOST_TERMS:
             rest = sum((term.amount for term in terms[MOST_TERMS:]), Fraction(0))
-            lines.append(f"  | {len(terms) - MOST_TERMS} more | | | | | | {shown(rest / MILLION)} |")
+            lines.append(f"  | {len(terms) - MOST_TERMS} more | | | | | | {nine_decimals(rest / MILLION)} |")
         return lines
 
     def terms(self, node: int, state: int, is_above: bool) -> Iterator[Term]:
@@ -291,19 +232,25 @@ class Reporter:
     def row(self, term: Term, is_above: bool) -> str:
         model, successor = self.model, term.successor
         value = decimal(rounded(self.vectors[successor].values[term.end], is_above)) if successor is not None else ""
-        cells = [model.states.label(term.end), model.observations.label(term.observation), shown(term.probability), shown(term.reward)]
-        return "  | " + " | ".join([*cells, "none" if successor is None else str(successor), value, shown(term.amount / MILLION)]) + " |"
+        probability, reward, amount = (nine_decimals(number) for number in (term.probability, term.reward, term.amount / MILLION))
+        cells = [model.states.label(term.end), model.observations.label(term.observation), probability, reward]
+        return "  | " + " | ".join([*cells, "none" if successor is None else str(successor), value, amount]) + " |"
 
 
-def amount_of(line: str) -> Optional[Fraction]:
-    """The number of a yes."""
+def yes_of(line: str) -> Optional[Yes]:
+    """The yes that a line is, or None if it is none."""
     answer = verdict_of(line)
-    return answer.amount if isinstance(answer, Yes) else None
+    return answer if isinstance(answer, Yes) else None
 
 
-def decimal_or_none(value: Optional[Fraction]) -> Optional[str]:
-    """A number of the programs' lines, which has at most six decimals."""
-    return None if value is None else decimal(int(value * MILLION))
+def amount_of(yes: Optional[Yes]) -> Optional[str]:
+    """The number of a yes."""
+    return decimal_or_none(None if yes is None else yes.amount)
+
+
+def gap_of(low: Optional[Yes], high: Optional[Yes]) -> Optional[str]:
+    """The difference of two bounds. Raises Refusal if they contradict each other."""
+    return None if low is None or high is None else decimal_or_none(gap_between(low.amount, high.amount))
 
 
 def mean(weights: Dict[int, Fraction], values: Sequence[int]) -> Fraction:
@@ -316,7 +263,7 @@ def rounded(value: Fraction, is_above: bool) -> int:
     return ceil(value * MILLION) if is_above else floor(value * MILLION)
 
 
-def shown(value: Fraction) -> str:
+def nine_decimals(value: Fraction) -> str:
     """A value with at most nine decimals; one with more is marked."""
     parts = round(value * 10**9)
     whole, rest = divmod(abs(parts), 10**9)

@@ -12,49 +12,28 @@ it early, and what was found so far is written, unless a second one comes. MDPs 
 Standard error has both bounds every few seconds. The last line, on standard output, has what is written.
 """
 import argparse
-from math import inf
-from time import monotonic
 from typing import TYPE_CHECKING, Tuple
 
+from polcert.arguments import add_json_and_quiet, add_search_limits
 from polcert.command import Parser, read_source, refuse_overwriting, refuse_unwritable, say, show, write_files
-from polcert.commands.points import PROGRESS_SECONDS, amount, gap
+from polcert.controllers import Search, solved
 from polcert.files import read_model
+from polcert.gaps import gap_in_words
 from polcert.json_output import json_text
 from polcert.needs import needs_numpy
 from polcert.points import WholeCells
 from polcert.signals import Interrupt
-from polcert.tokens import MILLION, decimal
+from polcert.tokens import MILLION, decimal, quantity
 from polcert.values import graph_text, refuse_discount_of_1, vectors_text
 
 if TYPE_CHECKING:
-    from polcert.solutions import Bound, Solution
-    from polcert.solver import Solver
-
-SECONDS, PERCENT = 60.0, 0.00001
+    from polcert.solutions import Solution, UpperBound
 
 
-class Progress:
-    """Writes a line about the search, and then one every few seconds."""
-
-    def __init__(self, is_quiet: bool) -> None:
-        self._begin, self._next = 0.0, inf if is_quiet else 0.0
-
-    def report(self, solver: "Solver") -> None:
-        now = monotonic()
-        self._begin = self._begin or now
-        if now >= self._next:
-            self._next = now + PROGRESS_SECONDS
-            bounds = f"from {solver.low:.6f} to {solver.high:.6f}, gap {gap(solver.low, solver.high)}"
-            say(f"polcert-solve: {now - self._begin:.0f} s, {solver.lower.count:,} vectors, {solver.upper.count:,} points: {bounds}")
-
-
-def found_within(cells: WholeCells, words: argparse.Namespace) -> Tuple["Solution", "Bound"]:
+def found_within(cells: WholeCells, words: argparse.Namespace) -> Tuple["Solution", "UpperBound"]:
     """What is found within the limits, or before an interrupt."""
-    from polcert.solutions import solve
-    from polcert.solver import Limits
-
     interrupt = Interrupt()
-    found = solve(cells, Limits(words.seconds, words.gap / 100), lambda: interrupt.is_there, Progress(words.quiet).report)
+    found = solved(cells, Search(words.seconds, words.gap / 100, lambda: interrupt.is_there, words.quiet))
     if interrupt.is_there:
         say("polcert-solve: interrupted: what was found so far is written")
     return found
@@ -64,11 +43,8 @@ def arguments() -> argparse.Namespace:
     parser = Parser("polcert-solve", __doc__)
     parser.add_argument("model", metavar="MODEL", help="a model (.POMDP) with a discount below 1")
     parser.add_argument("-o", "--output", metavar="NAME", required=True, help="write NAME.pg, NAME.alpha and the files of the bound")
-    parser.add_argument("--seconds", metavar="N", type=amount, default=SECONDS, help=f"search so long at most; default {SECONDS:.0f}")
-    near = f"search until the gap is so many percent of the lower bound; default {PERCENT:.5f}"
-    parser.add_argument("--gap", metavar="PERCENT", type=amount, default=PERCENT, help=near)
-    parser.add_argument("--json", action="store_true", help="write the result as JSON to standard output")
-    parser.add_argument("-q", "--quiet", action="store_true", help="no lines of progress")
+    add_search_limits(parser, seconds=60.0)
+    add_json_and_quiet(parser)
     return parser.parse_args()
 
 
@@ -89,6 +65,6 @@ def main() -> int:
         bound_of_all = {"at_most": decimal(most)}
         show(json_text("polcert-solve", files=names, nodes=size, worth=decimal(found.low), every_policy=bound_of_all))
         return 0
-    nodes, within = f"{size:,} node{'' if size == 1 else 's'}", gap(found.low / MILLION, most / MILLION)
+    nodes, within = quantity(size, "node"), gap_in_words(found.low / MILLION, most / MILLION)
     show(f"{names[0]}: {nodes}, worth {decimal(found.low)} from the start; every policy at most {decimal(most)} (gap {within})\n")
     return 0
