@@ -31,7 +31,9 @@ class Cases:
             print('failed:', *said, flush=True)
 
     def finish(self) -> NoReturn:
-        """Prints the last line and ends the runner: with status 1 if a case failed."""
+        """Prints the last line and ends the runner: with status 1 if a case failed, or there was none."""
+        if not self.passed + self.failed:
+            self.count(False, 'there is no case')
         print(f'{self.passed} passed, {self.failed} failed')
         sys.exit(self.failed > 0)
 

@@ -35,6 +35,7 @@ def decimal(millionths: int) -> str:
     return text or '0'
 
 
+# (Six parameters: where, from what and in which form cells are written.)
 def single_cells(out: TextIO, table: str, generator: random.Random, rows: Iterable[Tuple[int, int]], columns: int, parts: int) -> None:
     """One line for each cell above 0, `parts` of them in a row."""
     for action, state in rows:
@@ -99,10 +100,10 @@ def matrix(out: TextIO, head: str, generator: random.Random, rows: int, columns:
         out.write(' '.join(decimal(share) for share in split(generator, columns)) + '\n')
 
 
-def rewards(out: TextIO, generator: random.Random, action: int, states: int, behind: str) -> None:
-    """One line of a reward for each start state."""
+def rewards(out: TextIO, generator: random.Random, action: int, states: int, ends: str) -> None:
+    """One line of a reward for each start state, with these end states (and observations)."""
     for start in range(states):
-        out.write(f'R: {action} : {start} : {behind} {generator.randrange(1, 10)}\n')
+        out.write(f'R: {action} : {start} : {ends} {generator.randrange(1, 10)}\n')
 
 
 def dense_check(folder: str, name: str = 'dense') -> None:
@@ -260,17 +261,17 @@ def long_vectors(folder: str) -> None:
             vectors.write('0\n' + ' '.join(f'0.{generator.randrange(10 ** 25):025d}' for _ in range(1000)) + '\n\n')
 
 
-def alike_cells(folder: str) -> None:
-    """16 actions of 1,000 states, whose rows are all alike and are given cell by cell by 1,000 entries of 21 bytes."""
+def equal_rows(folder: str) -> None:
+    """16 actions of 1,000 states, whose rows are all equal and are given cell by cell by 1,000 entries of 21 bytes."""
     with open(f'{folder}/columns.POMDP', 'w') as out:
         preamble(out, 1000, 16, 1)
         out.writelines(f'T: * : * : {column} 0.001\n' for column in range(1000))
         out.write('O: * uniform\n')
 
 
-def everything_alike(folder: str) -> None:
+def hidden_entries(folder: str) -> None:
     """`T: * uniform` over 16,000,000 cells, and 10,000 entries that cover everything with 0."""
-    with open(f'{folder}/alike.POMDP', 'w') as out:
+    with open(f'{folder}/hidden.POMDP', 'w') as out:
         preamble(out, 1000, 16, 1)
         out.write('T: * : * : * 0\n' * 10_000)
         out.write('T: * uniform\nO: * uniform\nR: * : * : * : * 1\n')
@@ -381,8 +382,8 @@ INPUTS: Dict[str, Input] = {
     'cells': all_cells,
     'comments': comments,
     'vectors': long_vectors,
-    'columns': alike_cells,
-    'alike': everything_alike,
+    'columns': equal_rows,
+    'hidden': hidden_entries,
     'states1000': lambda folder: many_states_check(folder, 1000),
     'states2500': lambda folder: many_states_check(folder, 2500),
     'states5000': lambda folder: many_states_check(folder, 5000),

@@ -124,14 +124,14 @@ impl<'a> Check<'a> {
                     .t
                     .row(action, state)
                     .each(self.states(), |end, weight| {
-                        sum += i128::from(weight) * self.earns_behind(action, end, rewards);
+                        sum += i128::from(weight) * self.mean_reward(action, end, rewards);
                     });
                 sum
             }
         }
     }
 
-    fn earns_behind(&self, action: usize, end: usize, rewards: &[i64]) -> i128 {
+    fn mean_reward(&self, action: usize, end: usize, rewards: &[i64]) -> i128 {
         if self.model.is_mdp() {
             return i128::from(rewards[end]);
         }

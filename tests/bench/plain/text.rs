@@ -130,7 +130,7 @@ impl<'a> Tokens<'a> {
         let is_negative = self.sign();
         let size = self.size()?;
         if size.is_more {
-            return self.refused("a digit behind the sixth decimal");
+            return self.refused("a digit after the sixth decimal");
         }
         let millionths = size.millionths as i64;
         Ok(if is_negative { -millionths } else { millionths })
@@ -252,7 +252,7 @@ impl<'a> Tokens<'a> {
     fn end_numeral(&self, from: usize) -> Result<()> {
         let byte = self.byte_at(self.at);
         if byte.is_ascii_alphabetic() || byte == b'_' || byte == b'.' {
-            return self.refused("something stands directly behind a number");
+            return self.refused("something stands directly after a number");
         }
         if self.at - from > LONGEST_TOKEN {
             return self.refused("a number is too long");
