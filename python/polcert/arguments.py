@@ -11,7 +11,7 @@ PERCENT = 0.00001
 
 def add_search_limits(parser: argparse.ArgumentParser, seconds: float) -> None:
     """Adds --seconds, with its default, and --gap."""
-    longest = f"search so long at most, then finish; default {seconds:.0f}"
+    longest = f"search for N seconds of processor time at most, then finish; default {seconds:.0f}"
     parser.add_argument("--seconds", metavar="N", type=number_from_0(), default=seconds, help=longest)
     near = f"search until the gap is so many percent of the lower bound; default {PERCENT:.5f}"
     parser.add_argument("--gap", metavar="PERCENT", type=number_from_0(), default=PERCENT, help=near)

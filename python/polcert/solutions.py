@@ -1,6 +1,5 @@
 """Solves models in numpy: a policy graph with values that pass polcert's check, and an upper bound on what any policy earns."""
 from math import floor
-from time import monotonic
 from typing import Callable, List, NamedTuple, Tuple
 
 import numpy as np
@@ -16,7 +15,7 @@ from polcert.informed import by_state, informed_bound
 from polcert.points import Points, WholeCells, most_from_points, points_text, start_shares
 from polcert.reach import Policy, Reach
 from polcert.solver import Limits, Solver
-from polcert.stopping import IsOver, Stopping, after, part_of
+from polcert.stopping import IsOver, Stopping, after, part_of, spent_seconds
 from polcert.tokens import MILLION
 from polcert.values import ROUNDS, TOLERANCE, vectors_text
 from polcert.watch import Watch
@@ -65,14 +64,14 @@ class Solution(NamedTuple):
 
 def searched(cells: WholeCells, limits: Limits, is_stopped: IsOver, report: Report) -> Tuple[Solver, UpperBound]:
     """A search, with exact vectors, and the bound from it."""
-    begin, arrays = monotonic(), arrays_of(cells.model)
+    begin, arrays = spent_seconds(), arrays_of(cells.model)
     stopping = Stopping(TOLERANCE, ROUNDS, part_of(INFORMED_PART * limits.seconds, is_stopped))
     vectors = informed_vectors(cells, informed_bound(arrays, stopping)[0])
     found = UpperBound(vectors, Points([], [], []), 0.0)
     found.vectors_text()  # (which may be refused)
     solver = Solver(arrays, np.array(vectors) / MILLION)
-    solver.run(limits._replace(seconds=max(0.0, limits.seconds - (monotonic() - begin))), is_stopped, report)
-    spent = monotonic() - begin
+    solver.run(limits._replace(seconds=max(0.0, limits.seconds - (spent_seconds() - begin))), is_stopped, report)
+    spent = spent_seconds() - begin
     ends = Ends(after(FALLING_PART * spent, is_stopped), part_of(SETTLING_PART * spent))
     points = certified_points(solver, cells, vectors, ends, lambda: report(solver))
     return solver, UpperBound(vectors, points, solver.low)
@@ -115,9 +114,9 @@ def better_solution(model: Model, found: Solution, watch: Watch) -> Solution:
     reach = Reach(arrays_of(model))
     while not watch.is_over():
         try:
-            begin = monotonic()
+            begin = spent_seconds()
             graph = graph_of_vectors(reach, Policy(np.array(found.graph.actions), found.values), GraphLimits(), watch)
-            is_over = part_of(EVALUATED_PART * (monotonic() - begin))
+            is_over = part_of(EVALUATED_PART * (spent_seconds() - begin))
             values = evaluate(reach.arrays, graph, precision=PRECISION, is_over=is_over)
             other = solution(model, reach.arrays, Valued(graph, values), is_over)
         except Refusal:  # (the values of a graph that is tried do not settle)

@@ -4,7 +4,6 @@ Source: Smith and Simmons, Point-based POMDP algorithms: improved analysis and i
 nodes of a policy graph. From time to time their values rise together to what that graph is worth, and the values of all points of the upper
 bound fall together, by the covers that they have, which a backup at a time does slowly.
 """
-from time import monotonic
 from typing import Callable, Dict, List, NamedTuple, Optional
 
 import numpy as np
@@ -15,7 +14,7 @@ from polcert.covers import CoverGraph
 from polcert.files import MOST_NODES
 from polcert.lower_vectors import LowerVectors
 from polcert.sawtooth import Sawtooth
-from polcert.stopping import IsOver
+from polcert.stopping import IsOver, spent_seconds
 
 # A trial adds at most so many vectors.
 MOST_DEPTH = 300
@@ -60,7 +59,7 @@ class Solver:
         # the points that the start needed when values fell last: vectors are added there, in turn
         self._needed: List[BeliefNode] = []
         # when the search began, and the time that was spent with each kind of work
-        self._begin = monotonic()
+        self._begin = spent_seconds()
         self._spent: Dict[str, float] = {}
         self._relinking_part = RELINKING_PART
         self._is_over: IsOver = lambda: False
@@ -80,9 +79,9 @@ class Solver:
 
     def run(self, limits: Limits, is_stopped: IsOver, report: Callable[["Solver"], None]) -> None:
         """Searches until a limit is reached, nothing moves any more, or it is stopped. `report` is called first, and after each trial."""
-        self._begin, before = monotonic(), (0.0, 0.0)
+        self._begin, before = spent_seconds(), (0.0, 0.0)
         begin = self._begin
-        self._is_over = lambda: is_stopped() or monotonic() > begin + (1 - LAST_PART) * limits.seconds
+        self._is_over = lambda: is_stopped() or spent_seconds() > begin + (1 - LAST_PART) * limits.seconds
         report(self)
         while not self._is_over() and self.gap > limits.gap and self.has_room(limits):
             self.trial()
@@ -92,7 +91,7 @@ class Solver:
                 if all(abs(x - y) <= LEAST_MOVE * (1 + abs(x)) for x, y in zip((self.low, self.high), before)):
                     break
                 before = self.low, self.high
-        self._is_over = lambda: is_stopped() or monotonic() > begin + limits.seconds
+        self._is_over = lambda: is_stopped() or spent_seconds() > begin + limits.seconds
         while self.gap > limits.gap and not self._is_over() and self.lower.relink(self._is_over):
             report(self)
 
@@ -110,11 +109,11 @@ class Solver:
     def share(self, part: float, work: Callable[[], None]) -> None:
         """Does work, unless it has taken more than this part of the time so far. While there is little, the time does not decide: vectors are
         not linked again, and all else is done."""
-        before, name = monotonic(), work.__name__
+        before, name = spent_seconds(), work.__name__
         spent, is_small = self._spent.get(name, 0.0), self.lower.count + self.upper.count <= SMALL
         if (work != self.relink if is_small else spent <= part * (before - self._begin)) and not self._is_over():
             work()
-            self._spent[name] = spent + monotonic() - before
+            self._spent[name] = spent + spent_seconds() - before
 
     def rise(self) -> None:
         """Lets the values of the vectors rise."""
@@ -133,9 +132,9 @@ class Solver:
 
     def fall(self) -> None:
         """Lets the values of the points that the start needs fall together."""
-        late = monotonic() + max(1.0, FALLING_PART * (monotonic() - self._begin))
+        late = spent_seconds() + max(1.0, FALLING_PART * (spent_seconds() - self._begin))
         graph = CoverGraph(self.nodes, self.upper)
-        graph.settle(lambda: self._is_over() or monotonic() > late)
+        graph.settle(lambda: self._is_over() or spent_seconds() > late)
         self.take(graph)
 
     def take(self, graph: CoverGraph) -> None:
@@ -148,12 +147,12 @@ class Solver:
 
     def add_vectors(self) -> None:
         """Adds vectors at the points that the start needs."""
-        late = monotonic() + ADDING_SECONDS
+        late = spent_seconds() + ADDING_SECONDS
         for _ in range(len(self._needed)):
             node = self._needed.pop()
             self._needed.insert(0, node)
             self.back_up(node)
-            if monotonic() > late or self._is_over():
+            if spent_seconds() > late or self._is_over():
                 break
 
     def trial(self) -> None:

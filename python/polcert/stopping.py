@@ -1,5 +1,5 @@
-"""When iterations end."""
-from time import monotonic
+"""When iterations end, and the clock by which searches are limited."""
+from time import thread_time
 from typing import Callable, NamedTuple
 
 # Tells whether the time is over.
@@ -12,6 +12,12 @@ def never() -> bool:
     return False
 
 
+def spent_seconds() -> float:
+    """The processor time of this thread in seconds, from a moment of no meaning. Limits are kept in it, so that what a search finds does not
+    depend on what else runs."""
+    return thread_time()
+
+
 class Stopping(NamedTuple):
     """An iteration ends once values are so near what they come to, after so many rounds, or when it is over."""
 
@@ -21,9 +27,9 @@ class Stopping(NamedTuple):
 
 
 def after(seconds: float, is_stopped: IsOver = never) -> IsOver:
-    """Tells whether so many seconds from now on have passed, or the work was stopped."""
-    late = monotonic() + seconds
-    return lambda: is_stopped() or monotonic() >= late
+    """Tells whether so many seconds from now on are spent, or the work was stopped."""
+    late = spent_seconds() + seconds
+    return lambda: is_stopped() or spent_seconds() >= late
 
 
 def part_of(seconds: float, is_stopped: IsOver = never) -> IsOver:

@@ -8,6 +8,10 @@ from typing import Dict, NamedTuple, Optional, Sequence, Tuple
 Cell = Tuple[int, ...]
 Cells = Dict[Cell, Fraction]
 
+# An MDP: a step continues to the next state with 0.9, and earns 1 if it takes action 0 in state 0.
+RING = b"discount: 0.999999 values: reward states: 11 actions: 2 T: *\n" + b"".join(
+    b" ".join({s: b"0.1", (s + 1) % 11: b"0.9"}.get(e, b"0") for e in range(11)) + b"\n" for s in range(11)) + b"R: 0 : 0 : * 1\n"
+
 
 class Head(NamedTuple):
     """What stands before the entries of a model, and the numbers of which its rewards are made."""

@@ -10,8 +10,9 @@ from importlib import import_module
 from importlib.machinery import SourceFileLoader
 from importlib.util import find_spec, module_from_spec, spec_from_loader
 from pathlib import Path
-from types import ModuleType
-from typing import Iterator, List, NamedTuple, Optional, Tuple, TypeVar
+from time import sleep
+from types import FrameType, ModuleType
+from typing import Callable, Iterator, List, NamedTuple, Optional, Tuple, TypeVar
 
 T = TypeVar("T")
 
@@ -23,6 +24,7 @@ PROGRAM = os.environ.get("POLCERT", "")
 sys.path[:0] = [str(TOP / "python"), str(TOP / "tests")]
 sys.dont_write_bytecode = True
 
+MOST_TRIES = 90_000  # a quarter of an hour
 OTHER_WORDS = [b" 0.5 ", b" - ", b" : ", b" * ", b"uniform", b"2", b"nan", b"\xc3\xa9", b"1e9", b"0.1234567"]
 
 needs_program = unittest.skipUnless(PROGRAM, "no program is named")
@@ -46,6 +48,31 @@ def run_script(name: str, *words: str, given: bytes = b"") -> Said:
 def run_file(path: Path, *words: str, given: bytes = b"") -> Said:
     """Runs a Python file."""
     return _run([sys.executable, str(path), *words], given)
+
+
+def wait_until(is_so: Callable[[], object]) -> None:
+    """Waits until something is so. After MOST_TRIES it is taken for what never will be."""
+    for _ in range(MOST_TRIES):
+        if is_so():
+            return
+        sleep(0.01)
+    raise AssertionError("what is waited for is never so")
+
+
+def count_calls(work: Callable[[], object]) -> int:
+    """How many functions are called by this work, those of C too: a measure that depends neither on the machine nor on what else runs."""
+    count = 0
+
+    def note(_: FrameType, event: str, __: object) -> None:
+        nonlocal count
+        count += event in ("call", "c_call")
+
+    sys.setprofile(note)
+    try:
+        work()
+    finally:
+        sys.setprofile(None)
+    return count
 
 
 def load(name: str) -> ModuleType:

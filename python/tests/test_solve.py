@@ -11,7 +11,7 @@ from math import floor
 from typing import Any, List, NamedTuple, Optional, Sequence, Tuple
 from unittest.mock import patch
 
-from models import Entries, Head, random_model, random_row
+from models import RING, Entries, Head, random_model, random_row
 from support import EXAMPLES, HAS_NUMPY, NAMES, SCRIPTS, Said, needs_numpy, needs_program, polcert, present, run_script
 from informed import Exact, exact_model
 from test_outputs import OutputTest, disk
@@ -180,6 +180,16 @@ class Values(unittest.TestCase):
                     cells = WholeCells(model)
                     found, bound = solve(cells, Limits(0, 0), lambda: True, lambda _: None)
                     self.certified(model, Found(found, bound, bound.most(cells) / MILLION))
+
+    def test_no_more_time_than_is_given(self) -> None:
+        """A discount so near 1 takes 100,000 rounds, each of which looks at the clock: here it is a thousandth of a second later each time."""
+        cells, asked = WholeCells(read_model(Source("ring", RING))), {}
+        for limit in (1, 600):
+            clock = map(Fraction, range(10_000_000))
+            with patch("polcert.stopping.thread_time", lambda: float(next(clock) / 1000)):
+                solve(cells, Limits(limit, 0), lambda: False, lambda _: None)
+            asked[limit] = next(clock)
+        self.assertTrue(1_000 < asked[1] < 3_000 and 100_000 < asked[600], asked)
 
     def test_beliefs_that_are_followed(self) -> None:
         random_, steps = random.Random(7), 7

@@ -15,7 +15,6 @@ exit status is 0 if a lower bound is certified, and 1 if there is none. An inter
 import argparse
 import os
 import shutil
-from time import monotonic
 from typing import Dict, List, Optional
 
 from polcert import programs
@@ -33,7 +32,7 @@ from polcert.points import WholeCells
 from polcert.policies import GraphOrVectors
 from polcert.recorded_programs import Program
 from polcert.signals import Interrupt
-from polcert.stopping import LEAST_SECONDS
+from polcert.stopping import LEAST_SECONDS, spent_seconds
 from polcert.tokens import Source
 from polcert.values import refuse_discount_of_1
 from polcert.watch import Watch
@@ -94,9 +93,9 @@ class Work:
             self.certifier.done("solve", controller.line)
             self.certifier.certify(model, controller)
         else:
-            begin = monotonic()
+            begin = spent_seconds()
             controller = given_controller(self.read_policy(self.given[1], model), model, search)
-            search = left_after(search, monotonic() - begin)
+            search = left_after(search, spent_seconds() - begin)
             self.certifier.done("graph", controller.line)
             self.certifier.certify(model, controller)
             bound = bound_for(cells, search)
