@@ -18,6 +18,7 @@ class Interpreters(FolderTest):
         for name in NAMES:
             self.program(name, "#!/bin/sh\nexit 1\n")
         self.program("apt-get", f"#!/bin/sh\necho \"$*\" >> '{self.folder}/log'\n")
+        self.program("sleep", "#!/bin/sh\n")
 
     def program(self, name: str, text: str) -> str:
         path = self.file(name, text.encode())
@@ -56,6 +57,14 @@ class Interpreters(FolderTest):
         said = self.run_tool()
         self.assertEqual((said.status, said.out), (0, f"{self.folder}/python3\n".encode()))
         self.assertEqual(self.installs(), "update\ninstall\n")
+
+    def test_one_that_is_installed_at_the_second_try(self) -> None:
+        log, installed = self.folder / "log", self.folder / "python3"
+        self.program("apt-get", f"#!/bin/sh\n[ $1 = update ] || ! grep -q install '{log}' || ln -sf '{sys.executable}' '{installed}'\n"
+                                f"echo $1 >> '{log}'\n[ -L '{installed}' ]\n")
+        said = self.run_tool()
+        self.assertEqual((said.status, said.out), (0, f"{installed}\n".encode()))
+        self.assertEqual(self.installs(), "update\ninstall\n" * 2)
 
     def test_an_installation_that_fails(self) -> None:
         self.program("apt-get", "#!/bin/sh\nexit 100\n")
