@@ -1,4 +1,4 @@
-.PHONY: help run program install uninstall dist test gate toolchain
+.PHONY: help run program install uninstall dist test gate edits toolchain
 .DEFAULT_GOAL := help
 .DELETE_ON_ERROR:
 
@@ -7,7 +7,7 @@ program = crates/polcert/out/polcert
 bound = crates/polcert_bound/out/polcert_bound
 robust = crates/polcert_robust_program/out/polcert_robust_program
 names = polcert polcert_bound polcert_robust
-unproved = $(names:%=build/%-unproved)
+unproved = build/programs-unproved
 bindir = $(DESTDIR)$(PREFIX)/bin
 mandir = $(DESTDIR)$(PREFIX)/share/man/man1
 sharedir = $(DESTDIR)$(PREFIX)/share/polcert
@@ -21,18 +21,17 @@ sources = crates.txt $(shell find crates -name '*.rt' -path '*/src/*')
 help: ## list the targets
 	@sed -n 's/^\([a-z]*\):.*## \(.*\)/make \1\t\2/p' $(MAKEFILE_LIST) | expand -t 16
 
-run: ## first answer in minutes: build the programs unproved and check a shipped model
-	@$(MAKE) -s -j 3 $(unproved)
+run: $(unproved) ## first answer in minutes: build the programs unproved and check a shipped model
 	@mkdir -p build/unproved
-	@for name in $(names); do ln -sf ../$$name-unproved build/unproved/$$name; done
-	@build/polcert-unproved $(tiger)
+	@for name in $(names); do ln -sf ../programs-unproved build/unproved/$$name; done
+	@build/unproved/polcert $(tiger)
 	@echo 'The programs in build are not proved, and slow (make program builds the proved ones). To try them and the scripts:' >&2
 	@echo 'export PATH="$(CURDIR)/build/unproved:$(CURDIR)/scripts:$$PATH"' >&2
 
-build/%-unproved: $(sources) | toolchain
-	@echo 'Building $* without proofs, one to three minutes.' >&2
+$(unproved): $(sources) | toolchain
+	@echo 'Building the programs without proofs, about two minutes.' >&2
 	@mkdir -p build
-	@tools/build-unproved $@ $(patsubst polcert_robust,polcert_robust_program,$*)
+	@tools/build-unproved $@
 
 toolchain:
 	@command -v rt > /dev/null || { echo 'rt, the command of the Rattle toolchain, is not on the path: see Install in README.md' >&2; exit 1; }
@@ -53,7 +52,10 @@ dist: ## make an archive of the proved programs, the scripts, the pages and thei
 	@tools/make-dist "$(program)" "$(bound)" "$(robust)"
 
 test: ## run each test and each case in minutes, before any proof; last line: N passed, M failed
-	@tests/run
+	@tests/run test
 
 gate: ## prove everything, try the must-fail edits, run all tests and cases; last line: N passed, M failed
-	@tests/gate
+	@tests/run gate
+
+edits: ## try the wrong bodies of tests/edits, those of CRATES='NAME ..' or all; last line: N passed, M failed
+	@tests/try-edits $(CRATES)
