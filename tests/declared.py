@@ -6,7 +6,7 @@ from collections import defaultdict
 from itertools import accumulate
 from typing import DefaultDict, Iterator, Set
 
-from runner import TOP
+from runner import TOP, files_below
 
 # Words of the languages and of other tools: Rattle and its prover, Julia and its POMDPs.jl, gzip, AI-Toolbox, R's pomdp, pomdp_py, clap.
 OTHERS = frozenset("""kit rattle abbrev const ensures field i64 if-amount-gt0 if-other in_err in_ok let match now record requires
@@ -74,18 +74,19 @@ class Tree:
         self.of_crate: DefaultDict[str, Set[str]] = defaultdict(set)
         self.of_others: Set[str] = set(OTHERS)
         self.elsewhere: Set[str] = set()
-        for path in TOP.rglob('*'):
+        for path in files_below():
             parts = path.relative_to(TOP).parts
-            if not {'.git', 'out', 'build', '__pycache__'} & set(parts):
-                self.paths |= {'/'.join(parts[first:]) for first in range(len(parts))}
-                self.add(path, self.of_crate[parts[1]] if parts[0] == 'crates' and len(parts) > 1 else self.elsewhere)
+            names = self.of_crate[parts[1]] if parts[0] == 'crates' and len(parts) > 1 else self.elsewhere
+            for length in range(1, len(parts) + 1):
+                self.paths |= {'/'.join(parts[first:length]) for first in range(length)}
+                names.update(NAME.findall(parts[length - 1]))
+            self.add(path, names)
         self.targets = set(re.findall(r'^(\w+):', (TOP / 'Makefile').read_text(), re.M))
         self.names = self.elsewhere.union(self.of_others, *self.of_crate.values())
 
     def add(self, path: pathlib.Path, names: Set[str]) -> None:
-        """Adds the name of a file or folder, and what a file declares."""
-        names.update(NAME.findall(path.name))
-        if not path.is_file() or path.suffix == '.md':
+        """Adds what a file declares."""
+        if path.suffix == '.md':
             return
         text = path.read_text(errors='replace')
         if path.suffix in COMMENTS:

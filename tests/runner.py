@@ -7,12 +7,12 @@ import os
 import pathlib
 import subprocess
 import sys
-from typing import Any, Dict, NamedTuple, NoReturn, Sequence, Tuple, Union
+from typing import Any, Dict, List, NamedTuple, NoReturn, Sequence, Tuple, Union
 
 TESTS = pathlib.Path(__file__).resolve().parent
 TOP = TESTS.parent
 EXAMPLES = TOP / 'examples'
-SECONDS = 120  # that a run may take
+SECONDS = 900  # after which a run is taken for one that never ends
 sys.path[:0] = [str(TOP / 'python'), str(TOP / 'python/tests')]
 
 
@@ -58,6 +58,11 @@ def run(words: Sequence[Union[str, bytes, 'os.PathLike[str]']], **options: Any) 
     return Ran(done.returncode, done.stdout or b'', done.stderr or b'')
 
 
+def processors() -> int:
+    """How many processors this process may use."""
+    return len(os.sched_getaffinity(0))
+
+
 def named_program() -> str:
     """The program that the command line names first."""
     return os.path.abspath(sys.argv[1])  # not resolved: what stands beside the program may be links
@@ -88,9 +93,15 @@ def python() -> str:
 
 
 def shell_with(programs: Dict[str, str], room: pathlib.Path, *folders: pathlib.Path) -> Dict[str, str]:
-    """The environment of a shell that finds these programs by name, each with the time limit, those of these folders, and `python()`."""
+    """The environment of a shell that finds these programs by name, those of these folders, and `python()`."""
     for name, program in {**programs, 'python3': python()}.items():
-        limit = '' if name == 'python3' else f'timeout {SECONDS} '
-        (room / name).write_text(f"#!/bin/sh\nexec {limit}'{program}' \"$@\"\n")
+        (room / name).write_text(f"#!/bin/sh\nexec '{program}' \"$@\"\n")
         (room / name).chmod(0o755)
     return {**os.environ, 'PATH': ':'.join(map(str, [room, *folders, os.environ['PATH']]))}
+
+
+def files_below(*folders: str) -> List[pathlib.Path]:
+    """The files of the tree below these folders, or all of it, that git knows: nothing that another test leaves is among them."""
+    words = ['git', 'ls-files', '-z', '--', *(folders or ['.'])]
+    named = subprocess.run(words, cwd=TOP, stdout=subprocess.PIPE, check=True).stdout.split(b'\0')
+    return sorted(path for path in {TOP / os.fsdecode(name) for name in named if name} if path.is_file())
