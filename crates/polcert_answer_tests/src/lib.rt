@@ -1,5 +1,5 @@
-//! The tests of what `polcert_answer` and `polcert_bound_answer` make public, in a crate of their own: so they are proved
-//! without proving the runs once more.
+//! The tests of what `polcert_answer`, `polcert_bound_answer` and `polcert_points_answer` make public, in a crate of their own: so they are
+//! proved without proving the runs once more.
 #![tactic(auto)]
 
 #[cfg(test)]

@@ -1,15 +1,14 @@
 //! What the words of the command line of `polcert` ask for.
-use clap::error::ErrorKind;
 use polcert_terminal::command_line::FileNames;
 use polcert_terminal::polcert_command::{Choice, choose};
 use polcert_testing::expect_eq;
 use std::alloc::Global;
 
-/// What is chosen; or the kind of fault with which the words are refused.
-fn chosen<'a>(alloc: Global, words: &'a [&'a str]) -> Result<Option<Choice<'a>>, ErrorKind> {
+/// What is chosen, if the words are not refused. (`tests/cases` has the lines of those that are.)
+fn chosen<'a>(alloc: Global, words: &'a [&'a str]) -> Option<Option<Choice<'a>>> {
     match choose(alloc, words) {
-        Ok(choice) => Ok(choice),
-        Err(error) => Err(error.kind()),
+        Ok(choice) => Some(choice),
+        Err(_) => None,
     }
 }
 
@@ -67,44 +66,6 @@ const CHOICES: &[(&[&str], Option<Choice<'static>>)] = &[
 #[test]
 fn chooses(rt: HostRuntime) {
     for &(words, choice) in CHOICES {
-        expect_eq!(rt; chosen(rt.alloc(), words), Ok(choice));
-    }
-}
-
-#[test]
-fn refuses(rt: HostRuntime) {
-    let rows: [(&[&str], ErrorKind); 14] = [
-        (&["polcert", "nosuch"], ErrorKind::InvalidSubcommand),
-        (&["polcert", ""], ErrorKind::InvalidSubcommand),
-        (&["polcert", "model", "a", "b"], ErrorKind::UnknownArgument),
-        (
-            &["polcert", "check", "a", "b", "c", "d"],
-            ErrorKind::UnknownArgument,
-        ),
-        (&["polcert", "--bad"], ErrorKind::UnknownArgument),
-        (
-            &["polcert", "--at-most", "check", "a", "b", "c"],
-            ErrorKind::UnknownArgument,
-        ),
-        (
-            &["polcert", "lower", "--at-most", "a", "b", "c"],
-            ErrorKind::UnknownArgument,
-        ),
-        (
-            &["polcert", "check", "--at-most=true", "a", "b", "c"],
-            ErrorKind::TooManyValues,
-        ),
-        (
-            &["polcert", "check", "--at-most", "--at-most", "a", "b", "c"],
-            ErrorKind::ArgumentConflict,
-        ),
-        (&["polcert", "--help"], ErrorKind::DisplayHelp),
-        (&["polcert", "--version"], ErrorKind::DisplayVersion),
-        (&["polcert", "help", "check"], ErrorKind::DisplayHelp),
-        (&["polcert", "lower", "--help"], ErrorKind::DisplayHelp),
-        (&["polcert", "raise", "--help"], ErrorKind::DisplayHelp),
-    ];
-    for (words, kind) in rows {
-        expect_eq!(rt; chosen(rt.alloc(), words), Err(kind));
+        expect_eq!(rt; chosen(rt.alloc(), words), Some(choice));
     }
 }
