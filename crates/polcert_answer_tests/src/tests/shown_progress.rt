@@ -29,8 +29,8 @@ fn said(alloc: Global, is_terminal: bool, states: usize, nodes: usize) -> String
     terminal.take_written()
 }
 
-/// Whether standard error is a terminal, how many states of the first node are done and how many nodes, and what is said: nothing of a short
-/// check, or to no terminal.
+/// Whether standard error is a terminal, how many states of the first node are done and how many nodes, and what is said: nothing of a
+/// short check, or to no terminal.
 const CHECKS: &[(bool, usize, usize, &str)] = &[
     (
         true,

@@ -5,11 +5,12 @@ use polcert_lines::RefusalLine;
 use polcert_model::{ItemFault, ModelFault};
 use polcert_policy::{GraphFault, PointFault, VectorFault};
 use polcert_testing::expect_eq;
+use polcert_text::NumberFault;
 use std::alloc::Global;
 use std::test::Fail;
 
-/// Why a run stops that no case of a program shows, as memory or a text of four gigabytes is wanted, and one row for each other status: the
-/// line, and the status.
+/// Why a run stops, the line, and the exit status: out of memory, a text of four gigabytes, a code that no text gets, and rows with each
+/// other status.
 const STOPS: &[(RunFault, &str, u8)] = &[
     (
         RunFault::Text(Fault::Model(ModelFault::Memory)),
@@ -40,6 +41,15 @@ const STOPS: &[(RunFault, &str, u8)] = &[
             place: 4_294_967_296,
         })),
         "model: M20 in item 3 at byte 4294967296",
+        2,
+    ),
+    (
+        RunFault::Text(Fault::Model(ModelFault::Item {
+            kind: ItemFault::Number(NumberFault::NotANumeral),
+            item: 1,
+            place: 2,
+        })),
+        "model: M2 N1 in item 1 at byte 2",
         2,
     ),
     (

@@ -155,8 +155,8 @@ struct Stop {
     reads: usize,
 }
 
-/// Whether the run stops before it writes if the source of the text fails at the read of this number. Up to the read that decides, the source is
-/// named; after it the text is refused as ever. Neither the source nor what comes after it is asked again.
+/// Whether the run stops before it writes if the source of the text fails at the read of this number. Up to the read that decides, the
+/// source is named; after it the text is refused as ever. Neither the source nor what comes after it is asked again.
 fn stops_so(alloc: Global, stop: Stop, read: usize) -> bool {
     let Stop {
         run,
@@ -307,8 +307,9 @@ fn the_first_device_that_fails_is_named(rt: HostRuntime) {
 /// Three texts, the first of them that denotes nothing, its fault, and how often that text is read before the answer.
 pub type Refusal = (Texts<'static>, Text, Fault, usize);
 
-/// Texts that a check refuses, with reads of a byte. Each count is typed from the format, not taken from a run: a mark, and a byte that begins
-/// no token, is known with its byte; any other token with the byte after it; and the end of the text by one read more than it has bytes.
+/// Texts that a check refuses, with reads of a byte. Each count is typed from the format, not taken from a run: a mark, and a byte that
+/// begins no token, is known with its byte; any other token with the byte after it; and the end of the text by one read more than it has
+/// bytes.
 const REFUSALS: [Refusal; 20] = [
     // `discount: 2`: the number ends with the text, 11 bytes and the end
     (

@@ -168,8 +168,8 @@ const OF_BOUNDS: &[(&[u8], &[u8], InformedVerdict, u8)] = &[
     ),
 ];
 
-/// Vectors and points of the coin, their verdict, and its exit status. The weights of a step have the scale 2,000,000 * 1,000,000, and those
-/// of a point, or the discount, mostly sum to 1,000,000.
+/// Vectors and points of the coin, their verdict, and its exit status. The weights of a step have the scale 2,000,000 * 1,000,000, and
+/// those of a point, or the discount, mostly sum to 1,000,000.
 const OF_POINTS: &[(&[u8], &[u8], PointBoundVerdict, u8)] = &[
     (SEEN, EVEN, PointBoundVerdict::Yes, 0),
     (
