@@ -54,15 +54,6 @@ fn sequence_keeps_its_items(rt: HostRuntime) -> Result<(), Fail> {
     Ok(())
 }
 
-#[test]
-fn an_entry_has_four_places(rt: HostRuntime) -> Result<(), Fail> {
-    let four = [Place::Only(0), Place::Every, Place::Only(999), Place::Every];
-    let places = places_of(&four);
-    assert!(rt; places.len() == 4);
-    expect_eq!(rt; places.as_slice(), four.as_slice());
-    Ok(())
-}
-
 /// A list of these items.
 fn sequence<T: Copy + Drop>(alloc: Global, items: &[T]) -> Result<Sequence<T>, AllocError> {
     let mut sequence = Sequence::new(alloc);
@@ -99,7 +90,15 @@ fn put(
     push_if_kept(entries, entry)
 }
 
-/// Adds one entry of each body.
+/// As many places as there are, two of them the last element that there can be.
+const LAST: [Place; 4] = [
+    Place::Only(9_999),
+    Place::Every,
+    Place::Only(0),
+    Place::Only(9_999),
+];
+
+/// Adds one entry of each body, one more, and one of the last elements.
 fn put_each_body(alloc: Global, entries: &mut Entries) -> Result<(), AllocError> {
     let one = [Place::Only(1)];
     let two = [Place::Every, Place::Only(2)];
@@ -111,7 +110,8 @@ fn put_each_body(alloc: Global, entries: &mut Entries) -> Result<(), AllocError>
     put(entries, Table::Reward, &four, numbers)?;
     put(entries, Table::Transition, &one, Body::Uniform)?;
     let numbers = Body::Probabilities(sequence(alloc, &[7])?);
-    put(entries, Table::Transition, &two, numbers)
+    put(entries, Table::Transition, &two, numbers)?;
+    put(entries, Table::Transition, &LAST, Body::Uniform)
 }
 
 /// The numbers of a body of probabilities.
@@ -130,24 +130,9 @@ fn rewards(body: BodyRef<'_>) -> Option<&[i64]> {
     }
 }
 
-#[test]
-fn each_element_is_kept(rt: HostRuntime) -> Result<(), Fail> {
-    let mut entries = Entries::new(rt.alloc());
-    let last = [
-        Place::Only(9_999),
-        Place::Every,
-        Place::Only(0),
-        Place::Only(9_999),
-    ];
-    put(&mut entries, Table::Transition, &last, Body::Uniform)?;
-    assert!(rt; entries.len() == 1);
-    expect_eq!(rt; entries.at(0).places.as_slice(), last.as_slice());
-    Ok(())
-}
-
 /// Fails the test unless the entries are those of `put_each_body`. (It borrows them: to drop them at each assertion took 30 seconds of proof.)
 fn expect_each_body(rt: &impl Abort, entries: &Entries) {
-    assert!(rt; entries.len() == 5);
+    assert!(rt; entries.len() == 6);
     let borrowed = entries.at(0);
     expect_eq!(rt; borrowed.table, Table::Transition);
     expect_eq!(rt; borrowed.places.as_slice(), [Place::Only(1)].as_slice());
@@ -176,6 +161,9 @@ fn expect_each_body(rt: &impl Abort, entries: &Entries) {
         [Place::Every, Place::Only(2)].as_slice()
     );
     expect_eq!(rt; probabilities(borrowed.body), Some([7].as_slice()));
+    let borrowed = entries.at(5);
+    assert!(rt; borrowed.places.len() == 4);
+    expect_eq!(rt; borrowed.places.as_slice(), LAST.as_slice());
 }
 
 #[test]
@@ -289,13 +277,17 @@ fn first_misnumbered(names: &Names) -> Option<usize> {
     None
 }
 
+/// Adds all pairs twice: how many were new, the first that has another number, how many were new then, and how many names there are.
+fn add_twice(alloc: Global) -> Result<(u64, Option<usize>, u64, usize), AllocError> {
+    let mut names = Names::new(alloc);
+    let first = add_pairs(&mut names, alloc)?;
+    let wrong = first_misnumbered(&names);
+    let second = add_pairs(&mut names, alloc)?;
+    Ok((first, wrong, second, names.len()))
+}
+
 /// 324 names: the 301st moves those before it under another key.
 #[test]
-fn names_keep_their_numbers_under_another_key(rt: HostRuntime) -> Result<(), Fail> {
-    let mut names = Names::new(rt.alloc());
-    expect_eq!(rt; add_pairs(&mut names, rt.alloc())?, 324);
-    expect_eq!(rt; first_misnumbered(&names), None);
-    expect_eq!(rt; add_pairs(&mut names, rt.alloc())?, 0);
-    expect_eq!(rt; names.len(), 324);
-    Ok(())
+fn names_keep_their_numbers_under_another_key(rt: HostRuntime) {
+    expect_eq!(rt; add_twice(rt.alloc()), Ok((324, None, 0, 324)));
 }

@@ -61,8 +61,11 @@ fn entry(alloc: Global, pattern: &[usize], written: &[i64]) -> Result<Entry, All
     })
 }
 
+/// A pattern and what is written.
+type Line = (&'static [usize], &'static [i64]);
+
 /// The rewards of these lines, later ones over earlier ones.
-fn rewards(alloc: Global, costs: bool, lines: &[(&[usize], &[i64])]) -> Result<Rewards, AllocError>
+fn rewards(alloc: Global, costs: bool, lines: &[Line]) -> Result<Rewards, AllocError>
     ensures { IfOk result (λ rewards. rewards.shape ≡ SHAPE) }
 {
     let mut entries = Entries::new(alloc);
@@ -74,31 +77,27 @@ fn rewards(alloc: Global, costs: bool, lines: &[(&[usize], &[i64])]) -> Result<R
 }
 
 /// The rewards of all cells, each looked up alone.
-fn cells(alloc: Global, costs: bool, lines: &[(&[usize], &[i64])]) -> Option<[i64; CELLS]> {
-    let rewards = match rewards(alloc, costs, lines) {
-        Ok(rewards) => rewards,
-        Err(_) => return None,
-    };
+fn cells(rewards: &Rewards) -> [i64; CELLS]
+    requires shape { rewards.now.shape ≡ SHAPE }
+{
     let mut all = [0; CELLS];
     for number in 0..CELLS {
         all[number] = rewards.at(number / 8, number / 4 % 2, number / 2 % 2, number % 2);
     }
-    Some(all)
+    all
 }
 
 /// The same, filled in for each action, start state and end state: from the first observation on, and from the second.
-fn filled(alloc: Global, costs: bool, lines: &[(&[usize], &[i64])]) -> Option<[i64; CELLS]> {
-    let rewards = match rewards(alloc, costs, lines) {
-        Ok(rewards) => rewards,
-        Err(_) => return None,
-    };
+fn filled(rewards: &Rewards) -> [i64; CELLS]
+    requires shape { rewards.now.shape ≡ SHAPE }
+{
     let mut all = [0; CELLS];
     for step in 0..CELLS / 2 {
-        let [first, second] = filled_at(&rewards, step / 4, step / 2 % 2, step % 2);
+        let [first, second] = filled_at(rewards, step / 4, step / 2 % 2, step % 2);
         all[step * 2] = first;
         all[step * 2 + 1] = second;
     }
-    Some(all)
+    all
 }
 
 /// The rewards of both observations, if filling from the second on gives the same.
@@ -119,290 +118,298 @@ fn filled_at(rewards: &Rewards, action: usize, start: usize, end: usize) -> [i64
     }
 }
 
-/// Each of the 28 patterns alone, with the rewards of all cells: by action, start state, end state and observation.
-const PATTERNS: &[(&[usize], &[i64], [i64; CELLS])] = &[
-    (
-        &[ANY, ANY],
-        &[1, 2, 3, 4],
-        [1, 2, 3, 4, 1, 2, 3, 4, 1, 2, 3, 4, 1, 2, 3, 4],
-    ),
-    (
-        &[ANY, 0],
-        &[1, 2, 3, 4],
-        [1, 2, 3, 4, 0, 0, 0, 0, 1, 2, 3, 4, 0, 0, 0, 0],
-    ),
-    (
-        &[1, ANY],
-        &[1, 2, 3, 4],
-        [0, 0, 0, 0, 0, 0, 0, 0, 1, 2, 3, 4, 1, 2, 3, 4],
-    ),
-    (
-        &[1, 0],
-        &[1, 2, 3, 4],
-        [0, 0, 0, 0, 0, 0, 0, 0, 1, 2, 3, 4, 0, 0, 0, 0],
-    ),
-    (
-        &[ANY, ANY, ANY],
-        &[5, 6],
-        [5, 6, 5, 6, 5, 6, 5, 6, 5, 6, 5, 6, 5, 6, 5, 6],
-    ),
-    (
-        &[ANY, ANY, 1],
-        &[5, 6],
-        [0, 0, 5, 6, 0, 0, 5, 6, 0, 0, 5, 6, 0, 0, 5, 6],
-    ),
-    (
-        &[ANY, 0, ANY],
-        &[5, 6],
-        [5, 6, 5, 6, 0, 0, 0, 0, 5, 6, 5, 6, 0, 0, 0, 0],
-    ),
-    (
-        &[ANY, 0, 1],
-        &[5, 6],
-        [0, 0, 5, 6, 0, 0, 0, 0, 0, 0, 5, 6, 0, 0, 0, 0],
-    ),
-    (
-        &[1, ANY, ANY],
-        &[5, 6],
-        [0, 0, 0, 0, 0, 0, 0, 0, 5, 6, 5, 6, 5, 6, 5, 6],
-    ),
-    (
-        &[1, ANY, 1],
-        &[5, 6],
-        [0, 0, 0, 0, 0, 0, 0, 0, 0, 0, 5, 6, 0, 0, 5, 6],
-    ),
-    (
-        &[1, 0, ANY],
-        &[5, 6],
-        [0, 0, 0, 0, 0, 0, 0, 0, 5, 6, 5, 6, 0, 0, 0, 0],
-    ),
-    (
-        &[1, 0, 1],
-        &[5, 6],
-        [0, 0, 0, 0, 0, 0, 0, 0, 0, 0, 5, 6, 0, 0, 0, 0],
-    ),
-    (
-        &[ANY, ANY, ANY, ANY],
-        &[7],
-        [7, 7, 7, 7, 7, 7, 7, 7, 7, 7, 7, 7, 7, 7, 7, 7],
-    ),
-    (
-        &[ANY, ANY, ANY, 0],
-        &[7],
-        [7, 0, 7, 0, 7, 0, 7, 0, 7, 0, 7, 0, 7, 0, 7, 0],
-    ),
-    (
-        &[ANY, ANY, 1, ANY],
-        &[7],
-        [0, 0, 7, 7, 0, 0, 7, 7, 0, 0, 7, 7, 0, 0, 7, 7],
-    ),
-    (
-        &[ANY, ANY, 1, 0],
-        &[7],
-        [0, 0, 7, 0, 0, 0, 7, 0, 0, 0, 7, 0, 0, 0, 7, 0],
-    ),
-    (
-        &[ANY, 0, ANY, ANY],
-        &[7],
-        [7, 7, 7, 7, 0, 0, 0, 0, 7, 7, 7, 7, 0, 0, 0, 0],
-    ),
-    (
-        &[ANY, 0, ANY, 0],
-        &[7],
-        [7, 0, 7, 0, 0, 0, 0, 0, 7, 0, 7, 0, 0, 0, 0, 0],
-    ),
-    (
-        &[ANY, 0, 1, ANY],
-        &[7],
-        [0, 0, 7, 7, 0, 0, 0, 0, 0, 0, 7, 7, 0, 0, 0, 0],
-    ),
-    (
-        &[ANY, 0, 1, 0],
-        &[7],
-        [0, 0, 7, 0, 0, 0, 0, 0, 0, 0, 7, 0, 0, 0, 0, 0],
-    ),
-    (
-        &[1, ANY, ANY, ANY],
-        &[7],
-        [0, 0, 0, 0, 0, 0, 0, 0, 7, 7, 7, 7, 7, 7, 7, 7],
-    ),
-    (
-        &[1, ANY, ANY, 0],
-        &[7],
-        [0, 0, 0, 0, 0, 0, 0, 0, 7, 0, 7, 0, 7, 0, 7, 0],
-    ),
-    (
-        &[1, ANY, 1, ANY],
-        &[7],
-        [0, 0, 0, 0, 0, 0, 0, 0, 0, 0, 7, 7, 0, 0, 7, 7],
-    ),
-    (
-        &[1, ANY, 1, 0],
-        &[7],
-        [0, 0, 0, 0, 0, 0, 0, 0, 0, 0, 7, 0, 0, 0, 7, 0],
-    ),
-    (
-        &[1, 0, ANY, ANY],
-        &[7],
-        [0, 0, 0, 0, 0, 0, 0, 0, 7, 7, 7, 7, 0, 0, 0, 0],
-    ),
-    (
-        &[1, 0, ANY, 0],
-        &[7],
-        [0, 0, 0, 0, 0, 0, 0, 0, 7, 0, 7, 0, 0, 0, 0, 0],
-    ),
-    (
-        &[1, 0, 1, ANY],
-        &[7],
-        [0, 0, 0, 0, 0, 0, 0, 0, 0, 0, 7, 7, 0, 0, 0, 0],
-    ),
-    (
-        &[1, 0, 1, 0],
-        &[7],
-        [0, 0, 0, 0, 0, 0, 0, 0, 0, 0, 7, 0, 0, 0, 0, 0],
-    ),
-];
-
-#[test]
-fn each_pattern_alone(rt: HostRuntime) {
-    for &(pattern, written, wanted) in PATTERNS {
-        expect_eq!(rt;
-            cells(rt.alloc(), false, &[(pattern, written)]),
-            Some(wanted),
-            pattern);
-        expect_eq!(rt;
-            filled(rt.alloc(), false, &[(pattern, written)]),
-            Some(wanted),
-            pattern);
+/// The rewards of all cells by these lines, looked up and filled in.
+fn cells_of(alloc: Global, costs: bool, lines: &[Line]) -> Option<[[i64; CELLS]; 2]> {
+    match rewards(alloc, costs, lines) {
+        Ok(rewards) => Some([cells(&rewards), filled(&rewards)]),
+        Err(_) => None,
     }
 }
 
-#[test]
-fn costs_are_turned(rt: HostRuntime) {
-    expect_eq!(rt;
-        cells(rt.alloc(), true, &[(&[ANY, ANY], &[1, -2, 3, 4])]),
-        Some([-1, 2, -3, -4, -1, 2, -3, -4, -1, 2, -3, -4, -1, 2, -3, -4])
-    );
-}
+const WIDE: Line = (&[ANY, 0, ANY, ANY], &[5]);
 
-const WIDE: (&[usize], &[i64]) = (&[ANY, 0, ANY, ANY], &[5]);
+const NARROW: Line = (&[1, ANY, 1], &[8, 9]);
 
-const NARROW: (&[usize], &[i64]) = (&[1, ANY, 1], &[8, 9]);
-
-/// Lists of entries in which some hide others, with the rewards of all cells.
-const HIDDEN: &[(&[(&[usize], &[i64])], [i64; CELLS])] = &[
+/// Whether costs are given, entries, and the rewards of all cells: by action, start state, end state and observation. First each of the 28
+/// patterns alone, then costs, then lists in which some entries hide others.
+const REWARDS: &[(bool, &[Line], [i64; CELLS])] = &[
     (
+        false,
+        &[(&[ANY, ANY], &[1, 2, 3, 4])],
+        [1, 2, 3, 4, 1, 2, 3, 4, 1, 2, 3, 4, 1, 2, 3, 4],
+    ),
+    (
+        false,
+        &[(&[ANY, 0], &[1, 2, 3, 4])],
+        [1, 2, 3, 4, 0, 0, 0, 0, 1, 2, 3, 4, 0, 0, 0, 0],
+    ),
+    (
+        false,
+        &[(&[1, ANY], &[1, 2, 3, 4])],
+        [0, 0, 0, 0, 0, 0, 0, 0, 1, 2, 3, 4, 1, 2, 3, 4],
+    ),
+    (
+        false,
+        &[(&[1, 0], &[1, 2, 3, 4])],
+        [0, 0, 0, 0, 0, 0, 0, 0, 1, 2, 3, 4, 0, 0, 0, 0],
+    ),
+    (
+        false,
+        &[(&[ANY, ANY, ANY], &[5, 6])],
+        [5, 6, 5, 6, 5, 6, 5, 6, 5, 6, 5, 6, 5, 6, 5, 6],
+    ),
+    (
+        false,
+        &[(&[ANY, ANY, 1], &[5, 6])],
+        [0, 0, 5, 6, 0, 0, 5, 6, 0, 0, 5, 6, 0, 0, 5, 6],
+    ),
+    (
+        false,
+        &[(&[ANY, 0, ANY], &[5, 6])],
+        [5, 6, 5, 6, 0, 0, 0, 0, 5, 6, 5, 6, 0, 0, 0, 0],
+    ),
+    (
+        false,
+        &[(&[ANY, 0, 1], &[5, 6])],
+        [0, 0, 5, 6, 0, 0, 0, 0, 0, 0, 5, 6, 0, 0, 0, 0],
+    ),
+    (
+        false,
+        &[(&[1, ANY, ANY], &[5, 6])],
+        [0, 0, 0, 0, 0, 0, 0, 0, 5, 6, 5, 6, 5, 6, 5, 6],
+    ),
+    (
+        false,
+        &[(&[1, ANY, 1], &[5, 6])],
+        [0, 0, 0, 0, 0, 0, 0, 0, 0, 0, 5, 6, 0, 0, 5, 6],
+    ),
+    (
+        false,
+        &[(&[1, 0, ANY], &[5, 6])],
+        [0, 0, 0, 0, 0, 0, 0, 0, 5, 6, 5, 6, 0, 0, 0, 0],
+    ),
+    (
+        false,
+        &[(&[1, 0, 1], &[5, 6])],
+        [0, 0, 0, 0, 0, 0, 0, 0, 0, 0, 5, 6, 0, 0, 0, 0],
+    ),
+    (
+        false,
+        &[(&[ANY, ANY, ANY, ANY], &[7])],
+        [7, 7, 7, 7, 7, 7, 7, 7, 7, 7, 7, 7, 7, 7, 7, 7],
+    ),
+    (
+        false,
+        &[(&[ANY, ANY, ANY, 0], &[7])],
+        [7, 0, 7, 0, 7, 0, 7, 0, 7, 0, 7, 0, 7, 0, 7, 0],
+    ),
+    (
+        false,
+        &[(&[ANY, ANY, 1, ANY], &[7])],
+        [0, 0, 7, 7, 0, 0, 7, 7, 0, 0, 7, 7, 0, 0, 7, 7],
+    ),
+    (
+        false,
+        &[(&[ANY, ANY, 1, 0], &[7])],
+        [0, 0, 7, 0, 0, 0, 7, 0, 0, 0, 7, 0, 0, 0, 7, 0],
+    ),
+    (
+        false,
+        &[(&[ANY, 0, ANY, ANY], &[7])],
+        [7, 7, 7, 7, 0, 0, 0, 0, 7, 7, 7, 7, 0, 0, 0, 0],
+    ),
+    (
+        false,
+        &[(&[ANY, 0, ANY, 0], &[7])],
+        [7, 0, 7, 0, 0, 0, 0, 0, 7, 0, 7, 0, 0, 0, 0, 0],
+    ),
+    (
+        false,
+        &[(&[ANY, 0, 1, ANY], &[7])],
+        [0, 0, 7, 7, 0, 0, 0, 0, 0, 0, 7, 7, 0, 0, 0, 0],
+    ),
+    (
+        false,
+        &[(&[ANY, 0, 1, 0], &[7])],
+        [0, 0, 7, 0, 0, 0, 0, 0, 0, 0, 7, 0, 0, 0, 0, 0],
+    ),
+    (
+        false,
+        &[(&[1, ANY, ANY, ANY], &[7])],
+        [0, 0, 0, 0, 0, 0, 0, 0, 7, 7, 7, 7, 7, 7, 7, 7],
+    ),
+    (
+        false,
+        &[(&[1, ANY, ANY, 0], &[7])],
+        [0, 0, 0, 0, 0, 0, 0, 0, 7, 0, 7, 0, 7, 0, 7, 0],
+    ),
+    (
+        false,
+        &[(&[1, ANY, 1, ANY], &[7])],
+        [0, 0, 0, 0, 0, 0, 0, 0, 0, 0, 7, 7, 0, 0, 7, 7],
+    ),
+    (
+        false,
+        &[(&[1, ANY, 1, 0], &[7])],
+        [0, 0, 0, 0, 0, 0, 0, 0, 0, 0, 7, 0, 0, 0, 7, 0],
+    ),
+    (
+        false,
+        &[(&[1, 0, ANY, ANY], &[7])],
+        [0, 0, 0, 0, 0, 0, 0, 0, 7, 7, 7, 7, 0, 0, 0, 0],
+    ),
+    (
+        false,
+        &[(&[1, 0, ANY, 0], &[7])],
+        [0, 0, 0, 0, 0, 0, 0, 0, 7, 0, 7, 0, 0, 0, 0, 0],
+    ),
+    (
+        false,
+        &[(&[1, 0, 1, ANY], &[7])],
+        [0, 0, 0, 0, 0, 0, 0, 0, 0, 0, 7, 7, 0, 0, 0, 0],
+    ),
+    (
+        false,
+        &[(&[1, 0, 1, 0], &[7])],
+        [0, 0, 0, 0, 0, 0, 0, 0, 0, 0, 7, 0, 0, 0, 0, 0],
+    ),
+    (
+        true,
+        &[(&[ANY, ANY], &[1, -2, 3, 4])],
+        [-1, 2, -3, -4, -1, 2, -3, -4, -1, 2, -3, -4, -1, 2, -3, -4],
+    ),
+    (
+        false,
         &[WIDE, NARROW, (&[ANY, ANY, ANY, ANY], &[2]), NARROW],
         [2, 2, 2, 2, 2, 2, 2, 2, 2, 2, 8, 9, 2, 2, 8, 9],
     ),
     (
+        false,
         &[WIDE, NARROW],
         [5, 5, 5, 5, 0, 0, 0, 0, 5, 5, 8, 9, 0, 0, 8, 9],
     ),
     (
+        false,
         &[NARROW, WIDE],
         [5, 5, 5, 5, 0, 0, 0, 0, 5, 5, 5, 5, 0, 0, 8, 9],
     ),
     (
+        false,
         &[(&[ANY, 0, 1, 1], &[7]), WIDE, (&[0, ANY, 0, 1], &[3])],
         [5, 3, 5, 5, 0, 3, 0, 0, 5, 5, 5, 5, 0, 0, 0, 0],
     ),
 ];
 
 #[test]
-fn the_last_entry_hides(rt: HostRuntime) {
-    for &(lines, wanted) in HIDDEN {
-        expect_eq!(rt; cells(rt.alloc(), false, lines), Some(wanted), lines);
-        expect_eq!(rt; filled(rt.alloc(), false, lines), Some(wanted), lines);
+fn rewards_of_all_cells(rt: HostRuntime) {
+    for &(costs, lines, wanted) in REWARDS {
+        expect_eq!(rt; cells_of(rt.alloc(), costs, lines), Some([wanted; 2]), lines);
     }
 }
 
-fn alike_at(
-    alloc: Global,
-    lines: &[(&[usize], &[i64])],
-    action: usize,
-    start: usize,
-    end: usize,
-) -> Option<Option<i64>>
+/// The common reward of a row, how many differ, and the first two that do.
+type FoundRow = (i64, usize, (usize, i64), (usize, i64));
+
+/// What is known at once of an action, a start state, and an end state or another start state.
+#[derive(Clone, Copy, Debug, PartialEq, Eq)]
+enum Fact {
+    /// The reward of all observations, if it is the same.
+    Constant(Option<i64>),
+    /// The rewards of the first two observations, if they are found in a list without an exception.
+    Listed(Option<(Option<i64>, Option<i64>)>),
+    /// Whether there are rewards.
+    Paid(bool),
+    /// Whether the rewards are known to be the same in the other start state.
+    Same(bool),
+    /// The end state, 2 at most, up to which rewards are known to be the same.
+    Until(usize),
+    /// The rewards of all end states.
+    Row(Option<FoundRow>),
+}
+
+fn constant_at(rewards: &Rewards, action: usize, start: usize, end: usize) -> Option<i64>
+    requires shape { rewards.now.shape ≡ SHAPE }
     requires action { action < 2 }
     requires start { start < 2 }
     requires end { end < 2 }
 {
-    let rewards = match rewards(alloc, false, lines) {
-        Ok(rewards) => rewards,
-        Err(_) => return None,
-    };
     match rewards.find(action, start, end, &mut []) {
-        Some(row) => Some(row.constant()),
-        None => Some(None),
+        Some(row) => row.constant(),
+        None => None,
     }
 }
 
-/// The rewards of the first two observations, if they are found in a list without an exception.
 fn listed_at(
-    alloc: Global,
-    lines: &[(&[usize], &[i64])],
+    rewards: &Rewards,
     action: usize,
     start: usize,
     end: usize,
-) -> Option<[Option<i64>; 2]>
+) -> Option<(Option<i64>, Option<i64>)>
+    requires shape { rewards.now.shape ≡ SHAPE }
     requires action { action < 2 }
     requires start { start < 2 }
     requires end { end < 2 }
 {
-    let rewards = match rewards(alloc, false, lines) {
-        Ok(rewards) => rewards,
-        Err(_) => return None,
-    };
     let row = rewards.find(action, start, end, &mut [])?;
     match row.base {
-        BaseRewards::Listed(list) => Some([list.get(0).copied(), list.get(1).copied()]),
+        BaseRewards::Listed(list) => Some((list.get(0).copied(), list.get(1).copied())),
         BaseRewards::Common(_) => None,
     }
 }
 
-fn paid_at(alloc: Global, lines: &[(&[usize], &[i64])], action: usize, start: usize) -> Option<bool>
+fn row_at(rewards: &Rewards, action: usize, start: usize) -> Option<FoundRow>
+    requires shape { rewards.now.shape ≡ SHAPE }
     requires action { action < 2 }
     requires start { start < 2 }
 {
-    match rewards(alloc, false, lines) {
-        Ok(rewards) => Some(rewards.has_rewards(action, start)),
-        Err(_) => None,
+    let mut cells = [RewardCell {
+        observation: 0,
+        reward: 99,
+    }; 2];
+    match rewards.find_row(action, start, &mut cells) {
+        None => None,
+        Some(common) => {
+            let [first, second] = cells;
+            Some((
+                common.reward,
+                common.exceptions,
+                (first.observation, first.reward),
+                (second.observation, second.reward),
+            ))
+        }
     }
 }
 
-#[test]
-fn rewards_alike(rt: HostRuntime) {
-    let lines: [(&[usize], &[i64]); 4] = [
-        NARROW,
-        WIDE,
-        (&[1, 1], &[3, 4, 5, 6]),
-        (&[0, 1, 0, 1], &[7]),
-    ];
-    let alloc = rt.alloc();
-    expect_eq!(rt; alike_at(alloc, &lines, 1, 0, 1), Some(Some(5)));
-    expect_eq!(rt; alike_at(alloc, &lines, 1, 1, 0), Some(None));
-    expect_eq!(rt; alike_at(alloc, &lines, 0, 1, 0), Some(None));
-    expect_eq!(rt; alike_at(alloc, &lines, 0, 1, 1), Some(Some(0)));
-    expect_eq!(rt; listed_at(alloc, &lines, 1, 1, 0), Some([Some(3), Some(4)]));
-    expect_eq!(rt; listed_at(alloc, &lines, 1, 1, 1), Some([Some(5), Some(6)]));
-    expect_eq!(rt; listed_at(alloc, &lines, 1, 0, 1), None);
-    expect_eq!(rt; listed_at(alloc, &lines, 0, 1, 0), None);
+/// The fact of this kind.
+fn known_fact(rewards: &Rewards, action: usize, start: usize, end: usize, kind: Fact) -> Fact
+    requires shape { rewards.now.shape ≡ SHAPE }
+    requires action { action < 2 }
+    requires start { start < 2 }
+    requires end { end < 2 }
+{
+    match kind {
+        Fact::Constant(_) => Fact::Constant(constant_at(rewards, action, start, end)),
+        Fact::Listed(_) => Fact::Listed(listed_at(rewards, action, start, end)),
+        Fact::Paid(_) => Fact::Paid(rewards.has_rewards(action, start)),
+        Fact::Same(_) => Fact::Same(rewards.has_same(action, start, end)),
+        Fact::Until(_) => Fact::Until(rewards.same_until(action, start, end).min(2)),
+        Fact::Row(_) => Fact::Row(row_at(rewards, action, start)),
+    }
 }
 
-fn same_at(alloc: Global, lines: &[Line], at: [usize; 3]) -> Option<bool> {
-    let [action, start, other] = at;
-    if action > 1 || start > 1 || other > 1 {
+/// The same by these lines.
+fn fact_of(alloc: Global, lines: &[Line], at: [usize; 3], kind: Fact) -> Option<Fact> {
+    let [action, start, end] = at;
+    if action > 1 || start > 1 || end > 1 {
         return None;
     }
     match rewards(alloc, false, lines) {
-        Ok(rewards) => Some(rewards.has_same(action, start, other)),
+        Ok(rewards) => Some(known_fact(&rewards, action, start, end, kind)),
         Err(_) => None,
     }
 }
 
-/// A pattern and what is written.
-type Line = (&'static [usize], &'static [i64]);
+const LAST: Line = (&[0, 1, 0, 1], &[7]);
 
 const SHARED: Line = (&[ANY, ANY, 1], &[1, 2]);
 
@@ -410,133 +417,129 @@ const NAMED: Line = (&[0, 1, ANY, 1], &[3]);
 
 const OF_ONE_ACTION: Line = (&[0], &[1, 2, 3, 4, 5, 6, 7, 8]);
 
-/// Lines, an action and two states, and whether the rewards there are known to be the same.
-const SAME: &[(&[Line], [usize; 3], bool)] = &[
-    (&[], [0, 0, 1], true),
-    (&[SHARED], [0, 0, 1], true),
-    (&[SHARED, NAMED], [0, 0, 1], false),
-    (&[SHARED, NAMED], [0, 1, 0], false),
-    (&[SHARED, NAMED], [0, 0, 0], true),
-    (&[SHARED, NAMED], [1, 0, 1], true),
-    (&[SHARED, (&[ANY, 0], &[3, 4, 5, 6])], [1, 0, 1], false),
-    (&[OF_ONE_ACTION], [0, 0, 1], false),
-    (&[OF_ONE_ACTION], [1, 0, 1], true),
-    (&[(&[ANY], &[1, 2, 3, 4, 5, 6, 7, 8])], [1, 0, 1], false),
-];
+const OF_ONE_START: Line = (&[ANY, 0], &[3, 4, 5, 6]);
 
-#[test]
-fn the_same_in_two_states(rt: HostRuntime) {
-    for &(lines, at, is_same) in SAME {
-        expect_eq!(rt; same_at(rt.alloc(), lines, at), Some(is_same));
-    }
-}
+const COMMON: Line = (&[ANY, ANY, ANY, ANY], &[5]);
 
-fn until_at(alloc: Global, lines: &[Line], at: [usize; 3]) -> Option<usize> {
-    let [action, start, end] = at;
-    if action > 1 || start > 1 || end > 1 {
-        return None;
-    }
-    match rewards(alloc, false, lines) {
-        Ok(rewards) => Some(rewards.same_until(action, start, end).min(2)),
-        Err(_) => None,
-    }
-}
+const ONE: Line = (&[1, 0, 1, 0], &[7]);
 
-/// Lines, an action, a start state and an end state, and the end state, 2 at most, up to which rewards are known to be the same.
-const UNTIL: &[(&[Line], [usize; 3], usize)] = &[
-    (&[], [0, 0, 0], 2),
-    (&[WIDE], [1, 0, 0], 2),
-    (&[SHARED], [1, 0, 0], 1),
-    (&[SHARED], [1, 0, 1], 2),
-    (&[NAMED], [0, 1, 0], 2),
-    (&[(&[0, 1, 0, 1], &[3])], [0, 1, 0], 1),
-    (&[(&[0, 1, 0, 1], &[3])], [0, 1, 1], 2),
-    (&[(&[0, 1, 1, 1], &[3])], [0, 1, 0], 1),
-    (&[(&[0, 1, 1, 1], &[3])], [0, 0, 0], 2),
-    (&[(&[0, 1, 1, 1], &[3])], [1, 1, 0], 2),
-    (&[OF_ONE_ACTION], [0, 1, 0], 0),
-    (&[OF_ONE_ACTION], [0, 1, 1], 1),
-    (&[OF_ONE_ACTION], [1, 1, 0], 2),
-    (&[(&[ANY, 0], &[3, 4, 5, 6])], [1, 0, 0], 0),
-    (&[(&[ANY, 0], &[3, 4, 5, 6])], [1, 1, 0], 2),
-];
+const OTHER: Line = (&[1, 0, 0, 1], &[8]);
 
-#[test]
-fn the_same_up_to_an_end_state(rt: HostRuntime) {
-    for &(lines, at, until) in UNTIL {
-        expect_eq!(rt; until_at(rt.alloc(), lines, at), Some(until));
-    }
-}
-
-/// The common reward of a row, how many differ, and the first two that do.
-type FoundRow = (i64, usize, [(usize, i64); 2]);
-
-fn row_at(
-    alloc: Global,
-    lines: &[(&[usize], &[i64])],
-    action: usize,
-    start: usize,
-) -> Option<Option<FoundRow>>
-    requires action { action < 2 }
-    requires start { start < 2 }
-{
-    let rewards = match rewards(alloc, false, lines) {
-        Ok(rewards) => rewards,
-        Err(_) => return None,
-    };
-    let mut cells = [RewardCell {
-        observation: 0,
-        reward: 99,
-    }; 2];
-    match rewards.find_row(action, start, &mut cells) {
-        None => Some(None),
-        Some(common) => {
-            let [first, second] = cells;
-            let pairs = [
-                (first.observation, first.reward),
-                (second.observation, second.reward),
-            ];
-            Some(Some((common.reward, common.exceptions, pairs)))
-        }
-    }
-}
-
-#[test]
-fn rewards_of_a_row(rt: HostRuntime) {
-    let alloc = rt.alloc();
-    let common: (&[usize], &[i64]) = (&[ANY, ANY, ANY, ANY], &[5]);
-    let one: (&[usize], &[i64]) = (&[1, 0, 1, 0], &[7]);
-    let other: (&[usize], &[i64]) = (&[1, 0, 0, 1], &[8]);
-    expect_eq!(rt;
-        row_at(alloc, &[common, one, other], 1, 0),
-        Some(Some((5, 2, [(1, 8), (2, 7)])))
-    );
-    expect_eq!(rt;
-        row_at(alloc, &[one, common], 1, 0),
-        Some(Some((5, 1, [(2, 5), (0, 99)])))
-    );
-    expect_eq!(rt;
-        row_at(alloc, &[common, one, other], 1, 1),
-        Some(Some((5, 0, [(0, 99), (0, 99)])))
-    );
+/// Lines, an action, a start state, and an end state or another start state (or 0, where none is asked for), and what is known there.
+const FACTS: &[(&[Line], [usize; 3], Fact)] = &[
+    (
+        &[NARROW, WIDE, (&[1, 1], &[3, 4, 5, 6]), LAST],
+        [1, 0, 1],
+        Fact::Constant(Some(5)),
+    ),
+    (
+        &[NARROW, WIDE, (&[1, 1], &[3, 4, 5, 6]), LAST],
+        [1, 1, 0],
+        Fact::Constant(None),
+    ),
+    (
+        &[NARROW, WIDE, (&[1, 1], &[3, 4, 5, 6]), LAST],
+        [0, 1, 0],
+        Fact::Constant(None),
+    ),
+    (
+        &[NARROW, WIDE, (&[1, 1], &[3, 4, 5, 6]), LAST],
+        [0, 1, 1],
+        Fact::Constant(Some(0)),
+    ),
+    (
+        &[NARROW, WIDE, (&[1, 1], &[3, 4, 5, 6]), LAST],
+        [1, 1, 0],
+        Fact::Listed(Some((Some(3), Some(4)))),
+    ),
+    (
+        &[NARROW, WIDE, (&[1, 1], &[3, 4, 5, 6]), LAST],
+        [1, 1, 1],
+        Fact::Listed(Some((Some(5), Some(6)))),
+    ),
+    (
+        &[NARROW, WIDE, (&[1, 1], &[3, 4, 5, 6]), LAST],
+        [1, 0, 1],
+        Fact::Listed(None),
+    ),
+    (
+        &[NARROW, WIDE, (&[1, 1], &[3, 4, 5, 6]), LAST],
+        [0, 1, 0],
+        Fact::Listed(None),
+    ),
+    (&[], [0, 0, 1], Fact::Same(true)),
+    (&[SHARED], [0, 0, 1], Fact::Same(true)),
+    (&[SHARED, NAMED], [0, 0, 1], Fact::Same(false)),
+    (&[SHARED, NAMED], [0, 1, 0], Fact::Same(false)),
+    (&[SHARED, NAMED], [0, 0, 0], Fact::Same(true)),
+    (&[SHARED, NAMED], [1, 0, 1], Fact::Same(true)),
+    (&[SHARED, OF_ONE_START], [1, 0, 1], Fact::Same(false)),
+    (&[OF_ONE_ACTION], [0, 0, 1], Fact::Same(false)),
+    (&[OF_ONE_ACTION], [1, 0, 1], Fact::Same(true)),
+    (
+        &[(&[ANY], &[1, 2, 3, 4, 5, 6, 7, 8])],
+        [1, 0, 1],
+        Fact::Same(false),
+    ),
+    (&[], [0, 0, 0], Fact::Until(2)),
+    (&[WIDE], [1, 0, 0], Fact::Until(2)),
+    (&[SHARED], [1, 0, 0], Fact::Until(1)),
+    (&[SHARED], [1, 0, 1], Fact::Until(2)),
+    (&[NAMED], [0, 1, 0], Fact::Until(2)),
+    (&[(&[0, 1, 0, 1], &[3])], [0, 1, 0], Fact::Until(1)),
+    (&[(&[0, 1, 0, 1], &[3])], [0, 1, 1], Fact::Until(2)),
+    (&[(&[0, 1, 1, 1], &[3])], [0, 1, 0], Fact::Until(1)),
+    (&[(&[0, 1, 1, 1], &[3])], [0, 0, 0], Fact::Until(2)),
+    (&[(&[0, 1, 1, 1], &[3])], [1, 1, 0], Fact::Until(2)),
+    (&[OF_ONE_ACTION], [0, 1, 0], Fact::Until(0)),
+    (&[OF_ONE_ACTION], [0, 1, 1], Fact::Until(1)),
+    (&[OF_ONE_ACTION], [1, 1, 0], Fact::Until(2)),
+    (&[OF_ONE_START], [1, 0, 0], Fact::Until(0)),
+    (&[OF_ONE_START], [1, 1, 0], Fact::Until(2)),
+    (
+        &[COMMON, ONE, OTHER],
+        [1, 0, 0],
+        Fact::Row(Some((5, 2, (1, 8), (2, 7)))),
+    ),
+    (
+        &[ONE, COMMON],
+        [1, 0, 0],
+        Fact::Row(Some((5, 1, (2, 5), (0, 99)))),
+    ),
+    (
+        &[COMMON, ONE, OTHER],
+        [1, 1, 0],
+        Fact::Row(Some((5, 0, (0, 99), (0, 99)))),
+    ),
     // (There is no room for three.)
-    expect_eq!(rt;
-        row_at(alloc, &[one, other, (&[1, 0, 0, 0], &[9])], 1, 0),
-        Some(None)
-    );
+    (
+        &[ONE, OTHER, (&[1, 0, 0, 0], &[9])],
+        [1, 0, 0],
+        Fact::Row(None),
+    ),
     // (One names all observations of an end state.)
-    expect_eq!(rt;
-        row_at(alloc, &[one, (&[1, 0, 0, ANY], &[9])], 1, 0),
-        Some(None)
-    );
-}
+    (&[ONE, (&[1, 0, 0, ANY], &[9])], [1, 0, 0], Fact::Row(None)),
+    (
+        &[(&[1, ANY, 1, 0], &[1]), (&[0, 1, ANY], &[1, 2])],
+        [0, 0, 0],
+        Fact::Paid(false),
+    ),
+    (
+        &[(&[1, ANY, 1, 0], &[1]), (&[0, 1, ANY], &[1, 2])],
+        [0, 1, 0],
+        Fact::Paid(true),
+    ),
+    (
+        &[(&[1, ANY, 1, 0], &[1]), (&[0, 1, ANY], &[1, 2])],
+        [1, 0, 0],
+        Fact::Paid(true),
+    ),
+    (&[], [1, 1, 0], Fact::Paid(false)),
+];
 
 #[test]
-fn what_is_paid(rt: HostRuntime) {
-    let lines: [(&[usize], &[i64]); 2] = [(&[1, ANY, 1, 0], &[1]), (&[0, 1, ANY], &[1, 2])];
-    let alloc = rt.alloc();
-    expect_eq!(rt; paid_at(alloc, &lines, 0, 0), Some(false));
-    expect_eq!(rt; paid_at(alloc, &lines, 0, 1), Some(true));
-    expect_eq!(rt; paid_at(alloc, &lines, 1, 0), Some(true));
-    expect_eq!(rt; paid_at(alloc, &[], 1, 1), Some(false));
+fn facts_at_once(rt: HostRuntime) {
+    for &(lines, at, wanted) in FACTS {
+        expect_eq!(rt; fact_of(rt.alloc(), lines, at, wanted), Some(wanted), at);
+    }
 }

@@ -18,6 +18,7 @@ fn read_in_pieces(alloc: Global, text: &[u8], most: usize) -> (bool, u64, u64) {
     (is_read, source.failures(), source.reader.reads)
 }
 
+/// In pieces, and of a reader of std.
 #[test]
 fn reads_in_pieces(rt: HostRuntime) {
     for (most, reads) in [(1usize, 12u64), (2, 7), (4, 4), (100, 2)] {
@@ -26,6 +27,9 @@ fn reads_in_pieces(rt: HostRuntime) {
             (true, 0, reads)
         );
     }
+    let mut source = ReaderSource::new(b"a text".as_slice());
+    let is_read = are(read_all(rt.alloc(), &mut source, 100), b"a text");
+    expect_eq!(rt; (is_read, source.failures()), (true, 0));
 }
 
 /// A source that fails at any of its reads was not read whole. The failure was counted once, and the read is not tried
@@ -85,11 +89,4 @@ fn one_read_for_one_read(rt: HostRuntime) {
     ] {
         expect_eq!(rt; read_once(&mut source, &mut piece), found);
     }
-}
-
-#[test]
-fn reads_a_reader_of_std(rt: HostRuntime) {
-    let mut source = ReaderSource::new(b"a text".as_slice());
-    let is_read = are(read_all(rt.alloc(), &mut source, 100), b"a text");
-    expect_eq!(rt; (is_read, source.failures()), (true, 0));
 }

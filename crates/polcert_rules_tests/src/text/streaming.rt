@@ -86,82 +86,78 @@ const MODEL_TOKENS: &[(TokenKind, u64, &[u8])] = &[
     (TokenKind::Name, 35, b"x_9"),
 ];
 
-#[test]
-fn any_pieces_give_the_same(rt: HostRuntime) {
-    for (most, reads) in [
-        (1usize, 39u64),
-        (2, 20),
-        (3, 14),
-        (399, 2),
-        (400, 2),
-        (401, 2),
-        (4095, 2),
-        (4096, 2),
-        (4097, 2),
-    ] {
-        assert_tokens(
-            &rt,
-            &mut Pieces::new(MODEL, most, false),
-            MODEL_TOKENS,
-            None,
-            reads,
-        );
-    }
-}
-
-/// What is glued is known with the eleventh byte.
-#[test]
-fn a_token_split_at_every_byte(rt: HostRuntime) {
-    for (most, reads) in [
-        (1usize, 11u64),
-        (2, 6),
-        (3, 4),
-        (4, 3),
-        (5, 3),
-        (6, 2),
-        (7, 2),
-    ] {
-        let glued = Some(StreamFault::Token(TokenFault::Glued(9)));
-        assert_tokens(
-            &rt,
-            &mut Pieces::new(b"-12.5E-7 2ab", most, true),
-            &[
-                (TokenKind::Minus, 0, b"-"),
-                (TokenKind::Numeral, 1, b"12.5E-7"),
-            ],
-            glued,
-            reads,
-        );
-    }
-}
-
-#[test]
-fn a_failed_read_is_no_end(rt: HostRuntime) {
-    let failed = Some(StreamFault::Device);
-    for (most, reads) in [(1usize, 6u64), (2, 4), (3, 3), (4, 3)] {
-        let mut source = Pieces::new(b"ab 12", most, true);
-        let name = (TokenKind::Name, 0, b"ab".as_slice());
-        assert_tokens(&rt, &mut source, &[name], failed, reads);
-        expect_eq!(rt; source.failures, 1);
-    }
-}
-
-/// What is refused is refused before the read after it, which would fail.
-#[test]
-fn reads_no_further_than_it_must(rt: HostRuntime) {
-    let mut source = Pieces::new(b"discount: 2ab", 1, true);
-    let glued = Some(StreamFault::Token(TokenFault::Glued(10)));
-    assert_tokens(
-        &rt,
-        &mut source,
+/// Texts, whether their source fails after them, their tokens and how these end, how often the source failed then, and how often it was
+/// read, in pieces of several sizes.
+const CUT: &[(
+    &[u8],
+    bool,
+    &[(TokenKind, u64, &[u8])],
+    Option<StreamFault>,
+    u64,
+    &[(usize, u64)],
+)] = &[
+    (
+        MODEL,
+        false,
+        MODEL_TOKENS,
+        None,
+        0,
+        &[
+            (1, 39),
+            (2, 20),
+            (3, 14),
+            (399, 2),
+            (400, 2),
+            (401, 2),
+            (4095, 2),
+            (4096, 2),
+            (4097, 2),
+        ],
+    ),
+    // what is glued is known with the eleventh byte
+    (
+        b"-12.5E-7 2ab",
+        true,
+        &[
+            (TokenKind::Minus, 0, b"-"),
+            (TokenKind::Numeral, 1, b"12.5E-7"),
+        ],
+        Some(StreamFault::Token(TokenFault::Glued(9))),
+        0,
+        &[(1, 11), (2, 6), (3, 4), (4, 3), (5, 3), (6, 2), (7, 2)],
+    ),
+    // a failed read is no end
+    (
+        b"ab 12",
+        true,
+        &[(TokenKind::Name, 0, b"ab")],
+        Some(StreamFault::Device),
+        1,
+        &[(1, 6), (2, 4), (3, 3), (4, 3)],
+    ),
+    // what is refused is refused before the read after it, which would fail
+    (
+        b"discount: 2ab",
+        true,
         &[
             (TokenKind::Name, 0, b"discount"),
             (TokenKind::Colon, 8, b":"),
         ],
-        glued,
-        12,
-    );
-    expect_eq!(rt; source.failures, 0);
+        Some(StreamFault::Token(TokenFault::Glued(10))),
+        0,
+        &[(1, 12)],
+    ),
+];
+
+#[test]
+fn tokens_of_pieces(rt: HostRuntime) {
+    for &(text, fails, tokens, end, failures, sizes) in CUT {
+        for &(most, reads) in sizes {
+            let mut source = Pieces::new(text, most, fails);
+            assert_tokens(&rt, &mut source, tokens, end, reads);
+            expect_eq!(rt; source.failures, failures);
+        }
+    }
 }
 
 const MARKS: &[(&[u8], TokenKind)] = &[

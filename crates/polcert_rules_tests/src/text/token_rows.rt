@@ -44,76 +44,80 @@ fn assert_cut(
     }
 }
 
-#[test]
-fn tokens(rt: HostRuntime) {
-    use TokenKind::{Colon, Minus, Name, Numeral, Plus, Star};
-    assert_cut(&rt, b"", TEXT_LIMIT, &[], None);
-    assert_cut(
-        &rt,
+/// Texts, limits, the tokens of the texts with their places, and the end.
+const CUT: &[(&[u8], u64, &[(TokenKind, u64, &[u8])], Option<TokenFault>)] = &[
+    (b"", TEXT_LIMIT, &[], None),
+    (
         b"12-3",
         TEXT_LIMIT,
-        &[(Numeral, 0, b"12"), (Minus, 2, b"-"), (Numeral, 3, b"3")],
+        &[
+            (TokenKind::Numeral, 0, b"12"),
+            (TokenKind::Minus, 2, b"-"),
+            (TokenKind::Numeral, 3, b"3"),
+        ],
         None,
-    );
-    assert_cut(&rt, b"ab-#c", TEXT_LIMIT, &[(Name, 0, b"ab-")], None);
-    assert_cut(
-        &rt,
+    ),
+    (b"ab-#c", TEXT_LIMIT, &[(TokenKind::Name, 0, b"ab-")], None),
+    (
         b"T: *+1.5e-3\t:x_9\r\n",
         TEXT_LIMIT,
         &[
-            (Name, 0, b"T"),
-            (Colon, 1, b":"),
-            (Star, 3, b"*"),
-            (Plus, 4, b"+"),
-            (Numeral, 5, b"1.5e-3"),
-            (Colon, 12, b":"),
-            (Name, 13, b"x_9"),
+            (TokenKind::Name, 0, b"T"),
+            (TokenKind::Colon, 1, b":"),
+            (TokenKind::Star, 3, b"*"),
+            (TokenKind::Plus, 4, b"+"),
+            (TokenKind::Numeral, 5, b"1.5e-3"),
+            (TokenKind::Colon, 12, b":"),
+            (TokenKind::Name, 13, b"x_9"),
         ],
         None,
-    );
-    assert_cut(&rt, b"5.e1", TEXT_LIMIT, &[(Numeral, 0, b"5.e1")], None);
-    assert_cut(&rt, b"# T\n a#b\n#", TEXT_LIMIT, &[(Name, 5, b"a")], None);
-}
-
-const REFUSED: &[(&[u8], TokenFault)] = &[
-    (b"1e", TokenFault::Glued(0)),
-    (b"1e5x", TokenFault::Glued(0)),
-    (b"5e+", TokenFault::Glued(0)),
-    (b"1.2.3", TokenFault::Glued(0)),
-    (b"2_", TokenFault::Glued(0)),
-    (b".", TokenFault::BadByte(0)),
-    (b" ;", TokenFault::BadByte(1)),
-    (b"_a", TokenFault::BadByte(0)),
+    ),
+    (
+        b"5.e1",
+        TEXT_LIMIT,
+        &[(TokenKind::Numeral, 0, b"5.e1")],
+        None,
+    ),
+    (
+        b"# T\n a#b\n#",
+        TEXT_LIMIT,
+        &[(TokenKind::Name, 5, b"a")],
+        None,
+    ),
+    (b"1e", TEXT_LIMIT, &[], Some(TokenFault::Glued(0))),
+    (b"1e5x", TEXT_LIMIT, &[], Some(TokenFault::Glued(0))),
+    (b"5e+", TEXT_LIMIT, &[], Some(TokenFault::Glued(0))),
+    (b"1.2.3", TEXT_LIMIT, &[], Some(TokenFault::Glued(0))),
+    (b"2_", TEXT_LIMIT, &[], Some(TokenFault::Glued(0))),
+    (b".", TEXT_LIMIT, &[], Some(TokenFault::BadByte(0))),
+    (b" ;", TEXT_LIMIT, &[], Some(TokenFault::BadByte(1))),
+    (b"_a", TEXT_LIMIT, &[], Some(TokenFault::BadByte(0))),
+    (
+        b"ab cd",
+        2,
+        &[(TokenKind::Name, 0, b"ab")],
+        Some(TokenFault::TextTooLong(2)),
+    ),
+    (b"ab", 2, &[(TokenKind::Name, 0, b"ab")], None),
+    (
+        b"ab.",
+        TEXT_LIMIT,
+        &[(TokenKind::Name, 0, b"ab")],
+        Some(TokenFault::BadByte(2)),
+    ),
+    (
+        b"12 3a",
+        TEXT_LIMIT,
+        &[(TokenKind::Numeral, 0, b"12")],
+        Some(TokenFault::Glued(3)),
+    ),
 ];
 
 #[test]
-fn refusals(rt: HostRuntime) {
-    use TokenKind::{Name, Numeral};
-    for &(text, fault) in REFUSED {
-        assert_cut(&rt, text, TEXT_LIMIT, &[], Some(fault));
+fn tokens(rt: HostRuntime) {
+    for &(text, limit, tokens, end) in CUT {
+        assert_cut(&rt, text, limit, tokens, end);
     }
-    assert_cut(
-        &rt,
-        b"ab cd",
-        2,
-        &[(Name, 0, b"ab")],
-        Some(TokenFault::TextTooLong(2)),
-    );
-    assert_cut(&rt, b"ab", 2, &[(Name, 0, b"ab")], None);
-    assert_cut(
-        &rt,
-        b"ab.",
-        TEXT_LIMIT,
-        &[(Name, 0, b"ab")],
-        Some(TokenFault::BadByte(2)),
-    );
-    assert_cut(
-        &rt,
-        b"12 3a",
-        TEXT_LIMIT,
-        &[(Numeral, 0, b"12")],
-        Some(TokenFault::Glued(3)),
-    );
 }
 
 /// 400 bytes are a token, 401 are too long, and that comes before what follows them.

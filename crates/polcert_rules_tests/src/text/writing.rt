@@ -64,17 +64,24 @@ fn write_on(sink: &mut WriterSink<Taker>, text: &[u8]) -> (Result<(), SinkFailed
     (answer, sink.failures(), sink.writer.writes)
 }
 
+/// The same of three texts, of which the first write takes nothing.
+fn write_three(alloc: Global, texts: [&[u8]; 3]) -> [(Result<(), SinkFailed>, u64, u64); 3] {
+    let mut sink = WriterSink::new(Taker::new(alloc, Failing::TakesNothing(0)));
+    let [first, second, third] = texts;
+    [
+        write_on(&mut sink, first),
+        write_on(&mut sink, second),
+        write_on(&mut sink, third),
+    ]
+}
+
 /// A write that took nothing failed: it is not tried again, though it would succeed then. Nothing is written in no write.
 #[test]
 fn a_write_of_nothing_fails(rt: HostRuntime) {
-    let mut sink = WriterSink::new(Taker::new(rt.alloc(), Failing::TakesNothing(0)));
-    for (text, found) in [
-        (b"a".as_slice(), (Err(SinkFailed), 1, 1)),
-        (b"", (Ok(()), 1, 1)),
-        (b"b", (Ok(()), 1, 2)),
-    ] {
-        expect_eq!(rt; write_on(&mut sink, text), found);
-    }
+    expect_eq!(rt;
+        write_three(rt.alloc(), [b"a".as_slice(), b"", b"b"]),
+        [(Err(SinkFailed), 1, 1), (Ok(()), 1, 1), (Ok(()), 1, 2)]
+    );
 }
 
 /// Writes the piece once: the answer, and how often the sink failed and was written to until then.
@@ -83,19 +90,30 @@ fn write_once(sink: &mut WriterSink<Taker>, piece: &[u8]) -> (Result<usize, Sink
     (answer, sink.failures(), sink.writer.writes)
 }
 
+/// The same of two pieces, and whether the taker took just these bytes.
+fn write_twice(
+    alloc: Global,
+    failing: Failing,
+    pieces: [&[u8]; 2],
+    taken: &[u8],
+) -> ([(Result<usize, SinkFailed>, u64, u64); 2], bool) {
+    let mut sink = WriterSink::new(Taker::new(alloc, failing));
+    let [first, second] = pieces;
+    let found = [write_once(&mut sink, first), write_once(&mut sink, second)];
+    (found, sink.writer.taken.as_slice() == taken)
+}
+
 /// One write of a sink over a writer of std is one write of the writer, also of an empty piece, of which nothing is taken.
 #[test]
 fn one_write_for_one_write(rt: HostRuntime) {
-    let mut sink = WriterSink::new(Taker::new(rt.alloc(), Failing::TakesNothing(0)));
-    expect_eq!(rt; write_once(&mut sink, b""), (Ok(0), 0, 1));
-    let mut sink = WriterSink::new(Taker::new(rt.alloc(), Failing::Fails(1)));
-    for (piece, found) in [
-        (b"ab".as_slice(), (Ok(1), 0, 1)),
-        (b"b", (Err(SinkFailed), 1, 2)),
-    ] {
-        expect_eq!(rt; write_once(&mut sink, piece), found);
-    }
-    expect_eq!(rt; sink.writer.taken.as_slice(), b"a".as_slice());
+    expect_eq!(rt;
+        write_twice(rt.alloc(), Failing::TakesNothing(0), [b"".as_slice(), b"a"], b"a"),
+        ([(Ok(0), 0, 1), (Ok(1), 0, 2)], true)
+    );
+    expect_eq!(rt;
+        write_twice(rt.alloc(), Failing::Fails(1), [b"ab".as_slice(), b"b"], b"a"),
+        ([(Ok(1), 0, 1), (Err(SinkFailed), 1, 2)], true)
+    );
 }
 
 /// Takes pieces whole, notes how long the first four were, and counts its writes. The write of number `failing`, from 0 on,
