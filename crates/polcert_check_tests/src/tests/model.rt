@@ -1,13 +1,10 @@
-//! Tests of what no clause says. The expected answers come from the format's worked rows.
-mod elements;
+//! Tests of what no clause says, and no program shows. The expected answers come from the format's worked rows.
 mod faults;
 mod filled;
 mod limits;
-mod mdps;
-mod model_rows;
-mod names_and_starts;
+mod names;
 mod numbers;
 mod printing;
 mod refusals;
+mod rows;
 mod sources;
-mod texts;

@@ -19,16 +19,6 @@ fn graph_fault(alloc: Global, text: &[u8]) -> Option<GraphFault> {
     read_graph(alloc, text, 3, 2).err()
 }
 
-/// The same of a graph of one action.
-fn single_action_fault(alloc: Global, text: &[u8]) -> Option<GraphFault> {
-    read_graph(alloc, text, 1, 2).err()
-}
-
-/// The same of a graph of one action and one observation.
-fn single_fault(alloc: Global, text: &[u8]) -> Option<GraphFault> {
-    read_graph(alloc, text, 1, 1).err()
-}
-
 /// A value of the vectors, if there are such a node and state.
 fn value_at(vectors: &Vectors, node: usize, state: usize) -> Option<i64> {
     if node < vectors.nodes() && state < vectors.states() {
@@ -56,34 +46,38 @@ fn action_of(graph: &Graph, node: usize) -> Option<usize> {
     }
 }
 
-/// The two values of a single vector over two states.
+/// The two values of the first vector over two states.
 fn two_values(vectors: &Vectors) -> Option<[i64; 2]> {
-    if vectors.nodes() == 1 && vectors.states() == 2 {
+    if vectors.states() == 2 {
         Some([value_at(vectors, 0, 0)?, value_at(vectors, 0, 1)?])
     } else {
         None
     }
 }
 
-/// The two values that the text has over two states for a graph with one node of action 0, or how it is refused.
-type Found = Option<Result<Option<[i64; 2]>, VectorFault>>;
+/// The two values that the text has for the first node of a graph over two states, or how it is refused.
+type Found = Result<Option<[i64; 2]>, VectorFault>;
 
 /// What the text is as such vectors, whose values are rounded down.
-fn read_down(alloc: Global, text: &[u8]) -> Found {
-    let graph = read_graph(alloc, b"0 0 0 0", 3, 2).ok()?;
-    match read_vectors(alloc, text, &graph, 2) {
-        Ok(vectors) => Some(Ok(two_values(&vectors))),
-        Err(fault) => Some(Err(fault)),
+fn read_down(alloc: Global, text: &[u8], graph: &Graph) -> Found {
+    match read_vectors(alloc, text, graph, 2) {
+        Ok(vectors) => Ok(two_values(&vectors)),
+        Err(fault) => Err(fault),
     }
 }
 
 /// The same of values rounded up.
-fn read_up(alloc: Global, text: &[u8]) -> Found {
-    let graph = read_graph(alloc, b"0 0 0 0", 3, 2).ok()?;
-    match read_vectors_up(alloc, text, &graph, 2) {
-        Ok(vectors) => Some(Ok(two_values(&vectors))),
-        Err(fault) => Some(Err(fault)),
+fn read_up(alloc: Global, text: &[u8], graph: &Graph) -> Found {
+    match read_vectors_up(alloc, text, graph, 2) {
+        Ok(vectors) => Ok(two_values(&vectors)),
+        Err(fault) => Err(fault),
     }
+}
+
+/// Both, for a graph of one node of action 0.
+fn read_both(alloc: Global, text: &[u8]) -> Option<[Found; 2]> {
+    let graph = read_graph(alloc, b"0 0 0 0", 3, 2).ok()?;
+    Some([read_down(alloc, text, &graph), read_up(alloc, text, &graph)])
 }
 
 /// Whether writing the vectors to the sink ends so, and this stands in it then.
@@ -110,62 +104,40 @@ fn nodes_text(alloc: Global, count: usize) -> Result<String, AllocError> {
     Ok(text)
 }
 
-const REFUSED_GRAPHS: &[(&[u8], GraphFault)] = &[
-    (b"0 0 -1 0", GraphFault::BadShape(4)),
+/// Texts, and how they are refused, if they are. (More are cases of the program.)
+const GRAPHS: &[(&[u8], Option<GraphFault>)] = &[
     (
         b"0 0 0 1",
-        GraphFault::SuccessorOutOfRange {
+        Some(GraphFault::SuccessorOutOfRange {
             node: 0,
             observation: 1,
-        },
+        }),
     ),
     (
         b"0 0 0 0 1 0 0 3 2 0 1 99999999999999999999",
-        GraphFault::SuccessorOutOfRange {
+        Some(GraphFault::SuccessorOutOfRange {
             node: 1,
             observation: 1,
-        },
+        }),
     ),
-    (b"0 0 0 0 0 0 0 0", GraphFault::NodeOutOfOrder(8)),
-    (b"0 0 0 0 2", GraphFault::NodeOutOfOrder(8)),
-    (b"", GraphFault::NoNodes(0)),
-    (b" # nothing\n", GraphFault::NoNodes(11)),
-    (b"0 0 0", GraphFault::Truncated(5)),
-    (b"0 0 0 0 1\n", GraphFault::Truncated(10)),
-    (b"0 3 0 0", GraphFault::ActionOutOfRange(2)),
-    (b"0 0 0 ;", GraphFault::Token(TokenFault::BadByte(6))),
-    (b"0 0 0 -0x", GraphFault::Token(TokenFault::Glued(7))),
-    (b"0 0 0 x", GraphFault::BadShape(6)),
-    (b"0 0 0 1.5", GraphFault::BadShape(6)),
-    (b"0 0 0 +", GraphFault::BadShape(6)),
-    (b"0 0 0 0 - 0", GraphFault::BadShape(8)),
-    (b"0 0 0 -0", GraphFault::BadShape(6)),
-    (b"0 0 - x", GraphFault::BadShape(6)),
-    (b"0 X 0 0", GraphFault::BadShape(2)),
+    (b"0 0 0 0 2", Some(GraphFault::NodeOutOfOrder(8))),
+    (b" # nothing\n", Some(GraphFault::NoNodes(11))),
+    (b"0 0 0 0 1\n", Some(GraphFault::Truncated(10))),
+    (b"0 0 0 -0x", Some(GraphFault::Token(TokenFault::Glued(7)))),
+    (b"0 0 0 x", Some(GraphFault::BadShape(6))),
+    (b"0 0 0 1.5", Some(GraphFault::BadShape(6))),
+    (b"0 0 0 +", Some(GraphFault::BadShape(6))),
+    (b"0 0 0 0 - 0", Some(GraphFault::BadShape(8))),
+    (b"0 0 0 -0", Some(GraphFault::BadShape(6))),
+    (b"0 0 - x", Some(GraphFault::BadShape(6))),
+    (b"0 X 0 0", Some(GraphFault::BadShape(2))),
+    (b"0 0 0 -", None),
+    (b"0 0 0 X", None),
+    (b"0 0 - 0", None),
+    (b"0 0 - # none\n0 # trailing", None),
+    (b"0\n0\n0\n0", None),
+    (b"00 0 000 - \n", None),
 ];
-
-#[test]
-fn refused_graphs(rt: HostRuntime) {
-    for &(text, want) in REFUSED_GRAPHS {
-        expect_eq!(rt; graph_fault(rt.alloc(), text), Some(want));
-    }
-}
-
-const ACCEPTED_GRAPHS: &[&[u8]] = &[
-    b"0 0 0 -",
-    b"0 0 0 X",
-    b"0 0 - 0",
-    b"0 0 - # none\n0 # trailing",
-    b"0\n0\n0\n0",
-    b"00 0 000 - \n",
-];
-
-#[test]
-fn accepted_graphs(rt: HostRuntime) {
-    for text in ACCEPTED_GRAPHS {
-        expect_eq!(rt; single_action_fault(rt.alloc(), text), None);
-    }
-}
 
 /// The action of a node and its successors after two observations.
 type Node = (Option<usize>, [Option<Option<usize>>; 2]);
@@ -182,8 +154,17 @@ fn read_nodes(alloc: Global, text: &[u8]) -> Option<([usize; 3], [Node; 2])> {
     Some((counts, [node_of(&graph, 0), node_of(&graph, 1)]))
 }
 
+/// The length of the text of this many nodes, and how it is refused.
+fn fault_of_nodes(alloc: Global, count: usize) -> Option<(usize, Option<GraphFault>)> {
+    let text = nodes_text(alloc, count).ok()?;
+    Some((text.len(), read_graph(alloc, text.as_bytes(), 1, 1).err()))
+}
+
 #[test]
-fn graph_readers(rt: HostRuntime) {
+fn graphs(rt: HostRuntime) {
+    for &(text, fault) in GRAPHS {
+        expect_eq!(rt; graph_fault(rt.alloc(), text), fault, text);
+    }
     let nodes = [
         (Some(2), [Some(None), Some(None)]),
         (Some(0), [Some(Some(0)), Some(Some(1))]),
@@ -192,16 +173,6 @@ fn graph_readers(rt: HostRuntime) {
         read_nodes(rt.alloc(), b"0 2 - X\n1 0 0 001 # end"),
         Some(([2, 3, 2], nodes))
     );
-}
-
-/// The length of the text of this many nodes, and how it is refused.
-fn fault_of_nodes(alloc: Global, count: usize) -> Option<(usize, Option<GraphFault>)> {
-    let text = nodes_text(alloc, count).ok()?;
-    Some((text.len(), single_fault(alloc, text.as_bytes())))
-}
-
-#[test]
-fn most_nodes(rt: HostRuntime) {
     for (count, len, fault) in [
         (10_000, 88_890, None),
         (10_001, 88_900, Some(GraphFault::TooManyNodes(88_890))),
@@ -210,28 +181,17 @@ fn most_nodes(rt: HostRuntime) {
     }
 }
 
+/// Texts that are refused as vectors over two states. (More are cases of the program.)
 const REFUSED_VECTORS: &[(&[u8], VectorFault)] = &[
     (b"0 -20 -", VectorFault::Truncated(7)),
     (b"0 1.3333333", VectorFault::Truncated(11)),
-    (b"0 -20 -20 0 -20 -20", VectorFault::WrongVectorCount(10)),
     (b"0 -20 -20 x", VectorFault::WrongVectorCount(10)),
-    (b"", VectorFault::WrongVectorCount(0)),
     (b"\n", VectorFault::WrongVectorCount(1)),
-    (b"1 -20 -20", VectorFault::ActionMismatch(0)),
     (b"- 0 -20 -20", VectorFault::BadShape(0)),
     (b"0.0 -20 -20", VectorFault::BadShape(0)),
-    (b"0 -20 x", VectorFault::BadShape(6)),
     (b"0 -20 - x", VectorFault::BadShape(6)),
     (b"0 -20 - + 5", VectorFault::BadShape(6)),
-    (b"0 -20 ;", VectorFault::Token(TokenFault::BadByte(6))),
     (b"0 -20 -;", VectorFault::Token(TokenFault::BadByte(7))),
-    (
-        b"0 -20 -1e8",
-        VectorFault::Number {
-            fault: NumberFault::TooLarge,
-            place: 6,
-        },
-    ),
     (
         b"0 -20 1e401",
         VectorFault::Number {
@@ -239,62 +199,6 @@ const REFUSED_VECTORS: &[(&[u8], VectorFault)] = &[
             place: 6,
         },
     ),
-];
-
-#[test]
-fn refused_vectors(rt: HostRuntime) {
-    for &(text, want) in REFUSED_VECTORS {
-        expect_eq!(rt; read_down(rt.alloc(), text), Some(Err(want)));
-    }
-}
-
-/// Texts of vectors over two states, and their values rounded down.
-const ACCEPTED_VECTORS: &[(&[u8], [i64; 2])] = &[
-    (b"0 - 20 + 5", [-20_000_000, 5_000_000]),
-    (b"0 1.3333333 0.6666667", [1_333_333, 666_666]),
-    (
-        b"0 -19.9999999999999964 -19.9999999999999964",
-        [-20_000_000, -20_000_000],
-    ),
-    (
-        b"0\n19.3713683559737184225468809 19.3713683559737184225468809 \n\n",
-        [19_371_368, 19_371_368],
-    ),
-    (
-        b"0 # listen\n-1e-25 - # minus\n 0.0000000000000000000000001",
-        [-1, -1],
-    ),
-    (
-        b"0 10000000 -10000000",
-        [10_000_000_000_000, -10_000_000_000_000],
-    ),
-    (b"00 -0.0 .5", [0, 500_000]),
-];
-
-#[test]
-fn accepted_vectors(rt: HostRuntime) {
-    for &(text, want) in ACCEPTED_VECTORS {
-        expect_eq!(rt; read_down(rt.alloc(), text), Some(Ok(Some(want))));
-    }
-}
-
-/// The same of values rounded up.
-const ROUNDED_UP: &[(&[u8], [i64; 2])] = &[
-    (b"0 1.3333333 0.6666667", [1_333_334, 666_667]),
-    (
-        b"0 -19.9999999999999964 -1.9999999",
-        [-19_999_999, -1_999_999],
-    ),
-    (b"0 - 20 + 5", [-20_000_000, 5_000_000]),
-    (b"0 -1e-25 1e-25", [0, 1]),
-    (
-        b"0 10000000 -10000000",
-        [10_000_000_000_000, -10_000_000_000_000],
-    ),
-];
-
-const REFUSED_UP: &[(&[u8], VectorFault)] = &[
-    (b"0 -20 -", VectorFault::Truncated(7)),
     (
         b"0 1 -10000000.0000001",
         VectorFault::Number {
@@ -305,12 +209,52 @@ const REFUSED_UP: &[(&[u8], VectorFault)] = &[
 ];
 
 #[test]
-fn vectors_rounded_up(rt: HostRuntime) {
-    for &(text, want) in ROUNDED_UP {
-        expect_eq!(rt; read_up(rt.alloc(), text), Some(Ok(Some(want))));
+fn refused_vectors(rt: HostRuntime) {
+    for &(text, fault) in REFUSED_VECTORS {
+        expect_eq!(rt; read_both(rt.alloc(), text), Some([Err(fault); 2]), text);
     }
-    for &(text, want) in REFUSED_UP {
-        expect_eq!(rt; read_up(rt.alloc(), text), Some(Err(want)));
+}
+
+/// Texts of vectors over two states, and their values rounded down and up.
+const ACCEPTED_VECTORS: &[(&[u8], [i64; 2], [i64; 2])] = &[
+    (
+        b"0 - 20 + 5",
+        [-20_000_000, 5_000_000],
+        [-20_000_000, 5_000_000],
+    ),
+    (
+        b"0 1.3333333 0.6666667",
+        [1_333_333, 666_666],
+        [1_333_334, 666_667],
+    ),
+    (
+        b"0 -19.9999999999999964 -1.9999999",
+        [-20_000_000, -2_000_000],
+        [-19_999_999, -1_999_999],
+    ),
+    (
+        b"0\n19.3713683559737184225468809 19.3713683559737184225468809 \n\n",
+        [19_371_368, 19_371_368],
+        [19_371_369, 19_371_369],
+    ),
+    (
+        b"0 # listen\n-1e-25 - # minus\n 0.0000000000000000000000001",
+        [-1, -1],
+        [0, 0],
+    ),
+    (b"0 -1e-25 1e-25", [-1, 0], [0, 1]),
+    (
+        b"0 10000000 -10000000",
+        [10_000_000_000_000, -10_000_000_000_000],
+        [10_000_000_000_000, -10_000_000_000_000],
+    ),
+    (b"00 -0.0 .5", [0, 500_000], [0, 500_000]),
+];
+
+#[test]
+fn accepted_vectors(rt: HostRuntime) {
+    for &(text, down, up) in ACCEPTED_VECTORS {
+        expect_eq!(rt; read_both(rt.alloc(), text), Some([Ok(Some(down)), Ok(Some(up))]), text);
     }
 }
 
@@ -333,13 +277,6 @@ const WRITTEN: &[(&[u8], &[u8])] = &[
         b"0\n10000000 -10000000\n\n2\n0 -0.25\n\n",
     ),
 ];
-
-#[test]
-fn written_vectors(rt: HostRuntime) {
-    for &(text, want) in WRITTEN {
-        expect_eq!(rt; writes(rt.alloc(), text, want), Some(true), text);
-    }
-}
 
 /// Whether these are one vector of two values that may be lowered by a millionth.
 fn can_lower(vectors: &Vectors) -> bool
@@ -395,6 +332,9 @@ fn fails_after(alloc: Global, text: &[u8], front: &[u8]) -> Option<bool> {
 }
 
 #[test]
-fn full_sink(rt: HostRuntime) {
+fn written_vectors(rt: HostRuntime) {
+    for &(text, want) in WRITTEN {
+        expect_eq!(rt; writes(rt.alloc(), text, want), Some(true), text);
+    }
     expect_eq!(rt; fails_after(rt.alloc(), b"0 -20 5", b"0\n-20"), Some(true));
 }

@@ -1,9 +1,20 @@
 //! The cells of a model in filled tables.
 use super::numbers::{o, r, t};
-use super::texts::{GENERAL_FIRST, GENERAL_LAST, SINGLE};
 use polcert_model::{Cells, DenseModel, Model, Row, dense_of, read_model};
 use polcert_testing::{TIGER, expect_eq};
 use std::alloc::Global;
+
+/// A row of `uniform`, of which single cells are written anew.
+const SINGLE: &[u8] =
+    b"discount: 1 values: reward states: 6 actions: 1 observations: 1 T: 0 identity O: 0 uniform T: 0 : 0 uniform T: 0 : 0 : 0 0.5 T: 0 : 0 : 1 0 T: 0 : 0 : 2 0 T: 0 : 0 : 0 0.5";
+
+/// A reward for all cells, and one for a single cell after it.
+const GENERAL_FIRST: &[u8] =
+    b"discount: 1 values: reward states: 2 actions: 1 observations: 1 T: 0 identity O: 0 uniform R: * : * : * : * -1 R: 0 : 0 : 0 : 0 5";
+
+/// The same two the other way round.
+const GENERAL_LAST: &[u8] =
+    b"discount: 1 values: reward states: 2 actions: 1 observations: 1 T: 0 identity O: 0 uniform R: 0 : 0 : 0 : 0 5 R: * : * : * : * -1";
 
 /// An entry of each form and each pattern, for single cells, rows and matrices.
 const EVERY: &[u8] = b"discount: 1
@@ -69,18 +80,22 @@ R: 1 : 0 : 1 : * 47
 R: 1 : 0 : 1 : 0 48
 ";
 
-#[test]
-fn the_tiger_problem_in_filled_tables(rt: HostRuntime) {
-    expect_eq!(rt;
-        read_counts(rt.alloc(), TIGER),
-        Some([2, 3, 2, 950_000, 2_000_000, 2_000_000])
-    );
-}
+/// States, actions, observations, discount, and the scales of T and O.
+type Counts = [u64; 6];
+
+/// Texts, and what their filled tables say besides cells.
+const FILLED: &[(&[u8], Counts)] = &[
+    (TIGER, [2, 3, 2, 950_000, 2_000_000, 2_000_000]),
+    (SINGLE, [6, 1, 1, 1_000_000, 6_000_000, 1_000_000]),
+    (GENERAL_FIRST, [2, 1, 1, 1_000_000, 2_000_000, 1_000_000]),
+    (GENERAL_LAST, [2, 1, 1, 1_000_000, 2_000_000, 1_000_000]),
+    (EVERY, [2, 2, 2, 1_000_000, 2_000_000, 2_000_000]),
+];
 
 #[test]
 fn the_same_cells_in_filled_tables(rt: HostRuntime) {
-    for text in [TIGER, SINGLE, GENERAL_FIRST, GENERAL_LAST, EVERY] {
-        expect_eq!(rt; read_alike(rt.alloc(), text), Some(true), text);
+    for &(text, counts) in FILLED {
+        expect_eq!(rt; read_filled(rt.alloc(), text), Some((counts, true)), text);
     }
 }
 
@@ -93,20 +108,19 @@ fn filled(alloc: Global, model: &Model) -> Option<DenseModel> {
     }
 }
 
-/// The counts, discount and scales of the filled tables of the text's model.
-fn read_counts(alloc: Global, text: &[u8]) -> Option<[u64; 6]> {
+/// The counts of the filled tables of the text's model, and whether they say the same of each cell.
+fn read_filled(alloc: Global, text: &[u8]) -> Option<(Counts, bool)> {
     let model = read_model(alloc, text).ok()?;
-    counts_in(alloc, &model)
+    filled_in(alloc, &model)
 }
 
-/// The counts of a model's tables, filled.
-fn counts_in(alloc: Global, model: &Model) -> Option<[u64; 6]> {
+/// The same of a model.
+fn filled_in(alloc: Global, model: &Model) -> Option<(Counts, bool)> {
     let dense = filled(alloc, model)?;
-    Some(counts(&dense))
+    Some((counts(&dense), are_alike(model, &dense)))
 }
 
-/// States, actions, observations, discount, and the scales of T and O.
-fn counts<C: Cells>(cells: &C) -> [u64; 6] {
+fn counts<C: Cells>(cells: &C) -> Counts {
     [
         cells.states() as u64,
         cells.actions() as u64,
@@ -115,18 +129,6 @@ fn counts<C: Cells>(cells: &C) -> [u64; 6] {
         cells.t_scale(),
         cells.o_scale(),
     ]
-}
-
-/// Whether the text's model and its filled tables say the same of each cell.
-fn read_alike(alloc: Global, text: &[u8]) -> Option<bool> {
-    let model = read_model(alloc, text).ok()?;
-    alike_in(alloc, &model)
-}
-
-/// Whether a model's tables, filled, have the cells of the model.
-fn alike_in(alloc: Global, model: &Model) -> Option<bool> {
-    let dense = filled(alloc, model)?;
-    Some(are_alike(model, &dense))
 }
 
 /// Whether both have the same cells.

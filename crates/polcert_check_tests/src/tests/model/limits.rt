@@ -1,118 +1,14 @@
 //! The limits of elements and of cells.
-use super::numbers::{counts_and_printable, first_wrong_refusal};
-use polcert_model::ItemFault;
-use polcert_testing::{RefusedModel, expect_eq};
+use super::refusals::refusal_in_memory;
+use polcert_model::{Cells, ItemFault, ModelFault, read_model};
+use polcert_testing::expect_eq;
+use std::alloc::{AllocError, Global};
 
-/// Texts, why each is refused, the item, and the place: that of a word, if the preamble has too many pairs, and an item's end,
-/// where entries give too many cells.
-const REFUSED: [RefusedModel; 17] = [
-    (
-        b"discount: 1 values: reward states: 1001",
-        ItemFault::MissingLine,
-        4,
-        39,
-    ),
-    (
-        b"discount: 1 values: reward states: 10001",
-        ItemFault::BadCount,
-        3,
-        35,
-    ),
-    (
-        b"discount: 1 values: reward states: 1 actions: 1001",
-        ItemFault::BadCount,
-        4,
-        46,
-    ),
-    (
-        b"discount: 1 values: reward states: 1 actions: 1 observations: 10001",
-        ItemFault::BadCount,
-        5,
-        62,
-    ),
-    (
-        b"discount: 1 values: reward states: 2500 actions: 1 observations: 2001 T: 0 uniform",
-        ItemFault::TooManyCells,
-        6,
-        70,
-    ),
-    (
-        b"discount: 1 values: reward states: 2500 actions: 1 observations: 2001 start: 0",
-        ItemFault::TooManyCells,
-        6,
-        70,
-    ),
-    (
-        b"discount: 1 values: reward states: 2500 actions: 1 observations: 2001",
-        ItemFault::TooManyCells,
-        6,
-        69,
-    ),
-    (
-        b"discount: 1 values: reward states: 2237 actions: 1 T: 0 identity",
-        ItemFault::TooManyCells,
-        5,
-        51,
-    ),
-    (
-        b"discount: 1 values: reward states: 2237 actions: 1 O: 0 uniform",
-        ItemFault::TooManyCells,
-        5,
-        51,
-    ),
-    (
-        b"discount: 1 values: reward states: 5000 actions: 1 observations: 1 T: 0 uniform",
-        ItemFault::TooManyCells,
-        6,
-        79,
-    ),
-    (
-        b"discount: 1 values: reward states: 5000 actions: 1 observations: 1 T: 0 uniform O: 0 uniform",
-        ItemFault::TooManyCells,
-        6,
-        80,
-    ),
-    (
-        b"discount: 1 values: reward states: 5000 actions: 1 observations: 1 T: * : * : * 1",
-        ItemFault::TooManyCells,
-        6,
-        81,
-    ),
-    (
-        b"discount: 1 values: reward states: 3000 actions: 2 observations: 1 T: 0 uniform T: 0 uniform",
-        ItemFault::TooManyCells,
-        7,
-        92,
-    ),
-    (
-        b"discount: 1 values: reward states: 2000 actions: 4 observations: 2500 O: * uniform",
-        ItemFault::TooManyCells,
-        6,
-        82,
-    ),
-    (
-        b"discount: 1 values: reward states: 2000 actions: 4 observations: 2500 O: 0 uniform O: 1 uniform O: 2 uniform O: 3 uniform",
-        ItemFault::TooManyCells,
-        9,
-        121,
-    ),
-    (
-        b"discount: 1 values: reward states: 5000 actions: 1 observations: 1 T: 1 uniform",
-        ItemFault::IndexOutOfRange,
-        6,
-        70,
-    ),
-    (
-        b"discount: 1 values: reward states: 5000 actions: 1 observations: 1 T: 0 uniform 0",
-        ItemFault::BadShape,
-        6,
-        80,
-    ),
-];
-
-#[test]
-fn beyond_the_limits(rt: HostRuntime) {
-    expect_eq!(rt; first_wrong_refusal(rt.alloc(), &REFUSED), None);
+/// How many states, actions and observations the model of the text has, and whether it may be printed.
+fn counts_and_printable(alloc: Global, text: &[u8]) -> Option<([usize; 3], bool)> {
+    let model = read_model(alloc, text).ok()?;
+    let counts = [model.states(), model.actions(), model.observations()];
+    Some((counts, model.printable()))
 }
 
 /// Texts within the limits, with their states, actions and observations, and whether they may be printed.
@@ -181,5 +77,30 @@ fn within_the_limits(rt: HostRuntime) {
             counts_and_printable(rt.alloc(), text),
             Some((counts, printable))
         );
+    }
+}
+
+/// Whether a line of 10,000 names and a last one is refused at that.
+fn is_refused_at_last(alloc: Global, line: &str, last: u32) -> Result<bool, AllocError> {
+    let mut text = String::from_str(alloc, line)?;
+    for number in 0..10_000u32 {
+        text.push_str(&format!(in alloc; " n{number}")?)?;
+    }
+    let place = text.len() as u64 + 1;
+    text.push_str(&format!(in alloc; " n{last}")?)?;
+    let fault = ModelFault::Item {
+        kind: ItemFault::BadCount,
+        item: 1,
+        place,
+    };
+    Ok(refusal_in_memory(alloc, text.as_bytes()) == Some(fault))
+}
+
+/// The last name is new, or repeats an earlier one. The long lines are read once each, from memory: sixteen such reads took
+/// more than a minute in a build with checks.
+#[test]
+fn a_name_too_many(rt: HostRuntime) {
+    for (line, last) in [("states:", 7u32), ("observations:", 10_000)] {
+        expect_eq!(rt; is_refused_at_last(rt.alloc(), line, last), Ok(true), line);
     }
 }

@@ -1,12 +1,11 @@
-//! What the tests read of a text: plain values, so that no model lives on in a test. Such tests are proved quickest.
-use super::sources::refusal_in_pieces;
-use polcert_model::{Cells, Kind, Model, ModelFault, read_model};
-use polcert_testing::RefusedModel;
+//! Single numbers that a model says. A test reads plain values, so that no model lives on in it: such tests are proved quickest.
+use polcert_model::{Cells, Model, read_model};
+use polcert_testing::{COST, NUMBERED_MDP, TIGER, expect_eq};
 use std::alloc::Global;
 
 /// One of the numbers that a model says. Elements go by their numbers, in the order of `Model`'s methods.
 #[derive(Clone, Copy, Debug, PartialEq, Eq)]
-pub enum Number {
+enum Number {
     States,
     Actions,
     Observations,
@@ -18,10 +17,14 @@ pub enum Number {
     R(usize, usize, usize, usize),
     StartWeight(usize),
     StartTotal,
+    /// 1 if the model gives costs.
+    Costs,
+    /// 1 if the end state is observed.
+    Mdp,
 }
 
 /// The first of these numbers that is not the model's, if there is one: the very first where the text is no model's.
-pub fn first_wrong(alloc: Global, text: &[u8], numbers: &[(Number, i128)]) -> Option<Number> {
+fn first_wrong(alloc: Global, text: &[u8], numbers: &[(Number, i128)]) -> Option<Number> {
     let model = read_model(alloc, text).ok();
     for (number, value) in numbers {
         let said = match &model {
@@ -50,6 +53,8 @@ fn number_of(model: &Model, number: Number) -> Option<i128> {
         }
         Number::StartWeight(state) => start_weight(model, state).map(i128::from),
         Number::StartTotal => Some(i128::from(model.start_total())),
+        Number::Costs => Some(if model.is_cost() { 1 } else { 0 }),
+        Number::Mdp => Some(if model.is_mdp() { 1 } else { 0 }),
     }
 }
 
@@ -96,93 +101,87 @@ fn start_weight(model: &Model, state: usize) -> Option<u64> {
     }
 }
 
-/// Whether the text is a model's whose start states have just these weights, state by state, of this total.
-pub fn starts_with(alloc: Global, text: &[u8], weights: &[u64], total: u64) -> bool {
-    match read_model(alloc, text) {
-        Ok(model) => has_start(&model, weights, total),
-        Err(_) => false,
+/// Texts, and numbers of their models.
+const NUMBERS: &[(&[u8], &[(Number, i128)])] = &[
+    (
+        TIGER,
+        &[
+            (Number::States, 2),
+            (Number::Actions, 3),
+            (Number::Observations, 2),
+            (Number::Discount, 950_000),
+            (Number::T(1, 0, 1), 1_000_000),
+            (Number::TScale, 2_000_000),
+            (Number::O(0, 1, 1), 1_700_000),
+            (Number::OScale, 2_000_000),
+            (Number::R(1, 1, 0, 0), 10_000_000),
+            (Number::R(0, 0, 0, 0), -1_000_000),
+            (Number::R(2, 1, 1, 1), -100_000_000),
+            (Number::StartWeight(0), 1),
+            (Number::StartWeight(1), 1),
+            (Number::StartTotal, 2),
+            (Number::Costs, 0),
+            (Number::Mdp, 0),
+        ],
+    ),
+    // the end state is observed
+    (
+        NUMBERED_MDP,
+        &[
+            (Number::States, 2),
+            (Number::Actions, 1),
+            (Number::Observations, 2),
+            (Number::Discount, 500_000),
+            (Number::TScale, 2_000_000),
+            (Number::OScale, 2_000_000),
+            (Number::T(0, 0, 0), 0),
+            (Number::T(0, 0, 1), 2_000_000),
+            (Number::O(0, 0, 0), 2_000_000),
+            (Number::O(0, 0, 1), 0),
+            (Number::O(0, 1, 0), 0),
+            (Number::O(0, 1, 1), 2_000_000),
+            (Number::R(0, 0, 0, 1), 0),
+            (Number::R(0, 0, 1, 0), 1_000_000),
+            (Number::R(0, 0, 1, 1), 1_000_000),
+            (Number::R(0, 1, 1, 1), 0),
+            (Number::Costs, 0),
+            (Number::Mdp, 1),
+        ],
+    ),
+    // a cost is a reward below zero
+    (
+        COST,
+        &[(Number::R(0, 0, 0, 0), -1_000_000), (Number::Costs, 1)],
+    ),
+    // a row of six weights under newer cells
+    (
+        b"discount: 1 values: reward states: 1 actions: 1 observations: 6 T: 0 identity O: 0 : 0 0 0.2 0 0.3 0 0.5 O: 0 : 0 : 0 0.1 O: 0 : 0 : 3 0.7 O: 0 : 0 : 4 0 O: 0 : 0 : 5 0",
+        &[
+            (Number::OScale, 6_000_000),
+            (Number::O(0, 0, 0), 600_000),
+            (Number::O(0, 0, 1), 1_200_000),
+            (Number::O(0, 0, 2), 0),
+            (Number::O(0, 0, 3), 4_200_000),
+            (Number::O(0, 0, 4), 0),
+            (Number::O(0, 0, 5), 0),
+        ],
+    ),
+    // shares of the start where its probabilities differ
+    (
+        b"discount: 1 values: reward states: 4 actions: 1 observations: 1 start: 0 0.5 0.25 0.25 T: 0 identity O: 0 uniform",
+        &[
+            (Number::StartWeight(0), 0),
+            (Number::StartWeight(1), 500_000),
+            (Number::StartWeight(2), 250_000),
+            (Number::StartWeight(3), 250_000),
+            (Number::StartTotal, 1_000_000),
+        ],
+    ),
+];
+
+#[test]
+fn numbers(rt: HostRuntime) {
+    for &(text, numbers) in NUMBERS {
+        expect_eq!(rt; first_wrong(rt.alloc(), text, numbers), None, text);
     }
-}
-
-fn has_start(model: &Model, weights: &[u64], total: u64) -> bool {
-    for (state, weight) in weights.iter().enumerate() {
-        if start_weight(model, state) != Some(*weight) {
-            return false;
-        }
-    }
-    model.states() == weights.len() && model.start_total() == total
-}
-
-/// Whether the text's model gives costs, if the text is a model's.
-pub fn read_is_cost(alloc: Global, text: &[u8]) -> Option<bool> {
-    let model = read_model(alloc, text).ok()?;
-    Some(model.is_cost())
-}
-
-/// Whether the text's model is an MDP, if the text is a model's.
-pub fn read_is_mdp(alloc: Global, text: &[u8]) -> Option<bool> {
-    let model = read_model(alloc, text).ok()?;
-    Some(model.is_mdp())
-}
-
-/// Whether it is known at once that an action shows the same in two end states, if the text is a model's that has them.
-pub fn shows_same(alloc: Global, text: &[u8], at: [usize; 3]) -> Option<bool> {
-    let [action, end, other] = at;
-    let model = read_model(alloc, text).ok()?;
-    if action < model.actions() && end < model.states() && other < model.states() {
-        Some(model.has_same_observations(action, end, other))
-    } else {
-        None
-    }
-}
-
-/// Whether the text is a model's with such an element, and `name` is the element's name, or `None` where it has none.
-pub fn is_named(alloc: Global, text: &[u8], kind: Kind, index: usize, name: Option<&str>) -> bool {
-    match read_model(alloc, text) {
-        Ok(model) => has_name(&model, kind, index, name),
-        Err(_) => false,
-    }
-}
-
-fn has_name(model: &Model, kind: Kind, index: usize, name: Option<&str>) -> bool {
-    let count = match kind {
-        Kind::State => model.states(),
-        Kind::Action => model.actions(),
-        Kind::Observation => model.observations(),
-    };
-    index < count && model.name_of(kind, index) == name
-}
-
-/// How many states, actions and observations the model of the text has, and whether it may be printed.
-pub fn counts_and_printable(alloc: Global, text: &[u8]) -> Option<([usize; 3], bool)> {
-    let model = read_model(alloc, text).ok()?;
-    let counts = [model.states(), model.actions(), model.observations()];
-    Some((counts, model.printable()))
-}
-
-/// Why the text is refused, if it is, read from memory alone.
-pub fn refusal_in_memory(alloc: Global, text: &[u8]) -> Option<ModelFault> {
-    read_model(alloc, text).err()
-}
-
-/// Why the text is refused, if it is: from memory, and the same from a source in pieces of several sizes.
-pub fn refusal(alloc: Global, text: &[u8]) -> Option<ModelFault> {
-    let fault = refusal_in_memory(alloc, text)?;
-    for most in [1usize, 7, 4096] {
-        if refusal_in_pieces(alloc, text, most) != Some(fault) {
-            return None;
-        }
-    }
-    Some(fault)
-}
-
-/// The first of these texts that is not refused for its reason, in its item and at its place.
-pub fn first_wrong_refusal(alloc: Global, rows: &[RefusedModel]) -> Option<usize> {
-    for row in 0..rows.len() {
-        let (text, kind, item, place) = rows[row];
-        if refusal(alloc, text) != Some(ModelFault::Item { kind, item, place }) {
-            return Some(row);
-        }
-    }
-    None
 }

@@ -1,7 +1,7 @@
-//! Full forms, typed from the format's description.
+//! Full forms, typed from the format's description, and writes that fail.
 use polcert_model::{Model, read_model, write_model};
-use polcert_testing::{FIRST, FIRST_FORM, NUMBERED_MDP, TIGER, TIGER_FORM, expect_eq};
-use polcert_text::{BufferedSink, Sink, SinkFailed, SliceSink};
+use polcert_testing::{TIGER_FORM, expect_eq};
+use polcert_text::{BufferedSink, Sink, SinkFailed};
 use std::alloc::Global;
 
 const FULL3: &[u8] = b"discount: 1
@@ -23,9 +23,6 @@ uniform
 O: 0 : 2
 uniform
 ";
-
-const SIX: &[u8] =
-    b"discount: 1 values: reward states: 6 actions: 1 observations: 1 T: 0 identity O: 0 uniform T: 0 : 0 uniform T: 0 : 0 : 0 0.5 T: 0 : 0 : 1 0 T: 0 : 0 : 2 0";
 
 const SIX_FORM: &[u8] = b"discount: 1
 values: reward
@@ -62,55 +59,6 @@ O: 0 : 5
 uniform
 ";
 
-const HALVES: &[u8] =
-    b"discount: 1 values: reward states: 3 actions: 1 observations: 1 start: 0.5 0.5 0 T: 0 identity O: 0 uniform";
-
-const HALVES_FORM: &[u8] = b"discount: 1
-values: reward
-states: 3
-actions: 1
-observations: 1
-start include: 0 1
-T: 0 : 0
-1 0 0
-T: 0 : 1
-0 1 0
-T: 0 : 2
-0 0 1
-O: 0 : 0
-uniform
-O: 0 : 1
-uniform
-O: 0 : 2
-uniform
-";
-
-const QUARTERS: &[u8] =
-    b"discount: 1 values: reward states: 3 actions: 1 observations: 1 start: 0.25 0.75 0 T: 0 identity O: 0 uniform";
-
-const QUARTERS_FORM: &[u8] = b"discount: 1
-values: reward
-states: 3
-actions: 1
-observations: 1
-start: 0.25 0.75 0
-T: 0 : 0
-1 0 0
-T: 0 : 1
-0 1 0
-T: 0 : 2
-0 0 1
-O: 0 : 0
-uniform
-O: 0 : 1
-uniform
-O: 0 : 2
-uniform
-";
-
-const THIRDS: &[u8] =
-    b"discount: 1 values: reward states: 3 actions: 1 observations: 1 start: 0.333333 0.333333 0.333334 T: 0 identity O: 0 uniform";
-
 const THIRDS_FORM: &[u8] = b"discount: 1
 values: reward
 states: 3
@@ -131,9 +79,6 @@ O: 0 : 2
 uniform
 ";
 
-const COST: &[u8] =
-    b"discount: 0.5 values: cost states: 1 actions: 1 observations: 1 T: 0 identity O: 0 uniform R: 0 : 0 : 0 : 0 1.5";
-
 const COST_FORM: &[u8] = b"discount: 0.5
 values: cost
 states: 1
@@ -148,71 +93,9 @@ R: 0 : 0 : 0
 1.5
 ";
 
-const MDP_FORM: &[u8] = b"discount: 0.5
-values: reward
-states: 2
-actions: 1
-start: uniform
-T: 0 : 0
-0 1
-T: 0 : 1
-1 0
-R: 0 : 0
-0 1
-";
-
-const MDP_COST: &[u8] =
-    b"discount: 0.5 values: cost states: 2 actions: 1 T: 0 0 1 1 0 R: 0 : 0 : 1 1";
-
-const MDP_COST_FORM: &[u8] = b"discount: 0.5
-values: cost
-states: 2
-actions: 1
-start: uniform
-T: 0 : 0
-0 1
-T: 0 : 1
-1 0
-R: 0 : 0
-0 1
-";
-
-/// Whether the text is read, and printed as the form.
-fn prints(alloc: Global, text: &[u8], form: &[u8]) -> Option<bool> {
-    let model = read_model(alloc, text).ok()?;
-    Some(is_printed(&model, form))
-}
-
-/// Whether the model is written in this form.
-fn is_printed(model: &Model, form: &[u8]) -> bool {
-    let mut bytes = [0u8; 2048];
-    let mut sink = SliceSink::new(&mut bytes);
-    is_written(model, &mut sink) && sink.written() == form
-}
-
 /// Whether the model may be written, and is.
 fn is_written<W: Sink>(model: &Model, sink: &mut W) -> bool {
     model.printable() && write_model(model, sink).is_ok()
-}
-
-/// Each form, read and printed again, gives the same bytes.
-#[test]
-fn full_forms(rt: HostRuntime) {
-    for (text, form) in [
-        (TIGER, TIGER_FORM),
-        (FIRST, FIRST_FORM),
-        (FULL3, FULL3),
-        (SIX, SIX_FORM),
-        (HALVES, HALVES_FORM),
-        (QUARTERS, QUARTERS_FORM),
-        (THIRDS, THIRDS_FORM),
-        (COST, COST_FORM),
-        (NUMBERED_MDP, MDP_FORM),
-        (MDP_COST, MDP_COST_FORM),
-    ] {
-        expect_eq!(rt; prints(rt.alloc(), text, form), Some(true), text);
-        expect_eq!(rt; prints(rt.alloc(), form, form), Some(true), form);
-    }
 }
 
 /// Takes a byte at a time, and fails at the write of number `failing`, from 0 on.

@@ -42,62 +42,64 @@ fn read_from(
     (found, (source.failures, source.reads))
 }
 
-/// Texts of vectors for two actions and two states, and their values.
-const ACCEPTED: &[(&[u8], Values)] = &[
-    (b"0 1 2 1 3 4", [1_000_000, 2_000_000, 3_000_000, 4_000_000]),
-    (VECTORS, [1_500_000, -2_250_000, -3_000_000, 500_000]),
+/// Texts, and what is read of them, or how they are refused.
+const READ: &[(&[u8], Result<Option<Values>, VectorFault>)] = &[
+    (
+        b"0 1 2 1 3 4",
+        Ok(Some([1_000_000, 2_000_000, 3_000_000, 4_000_000])),
+    ),
+    (
+        VECTORS,
+        Ok(Some([1_500_000, -2_250_000, -3_000_000, 500_000])),
+    ),
     (
         b"0 1.3333333 -1.9999999\n01 1e-25 -1e-25",
-        [1_333_334, -1_999_999, 1, 0],
+        Ok(Some([1_333_334, -1_999_999, 1, 0])),
     ),
     (
         b"0 10000000 -10000000 1 0 0 # no more",
-        [10_000_000_000_000, -10_000_000_000_000, 0, 0],
+        Ok(Some([10_000_000_000_000, -10_000_000_000_000, 0, 0])),
     ),
-];
-
-#[test]
-fn one_vector_for_each_action(rt: HostRuntime) {
-    for &(text, want) in ACCEPTED {
-        expect_eq!(rt; read(rt.alloc(), text), Ok(Some(want)));
-    }
-}
-
-const REFUSED: &[(&[u8], VectorFault)] = &[
-    (b"0 1 2 1 3 ;", VectorFault::Token(TokenFault::BadByte(10))),
-    (b"0 1 2 1 3 4x", VectorFault::Token(TokenFault::Glued(10))),
+    (
+        b"0 1 2 1 3 ;",
+        Err(VectorFault::Token(TokenFault::BadByte(10))),
+    ),
+    (
+        b"0 1 2 1 3 4x",
+        Err(VectorFault::Token(TokenFault::Glued(10))),
+    ),
     (
         b"0 1 2 1 3 1e8",
-        VectorFault::Number {
+        Err(VectorFault::Number {
             fault: NumberFault::TooLarge,
             place: 10,
-        },
+        }),
     ),
     (
         b"0 1 -10000000.0000001 1 3 4",
-        VectorFault::Number {
+        Err(VectorFault::Number {
             fault: NumberFault::TooLarge,
             place: 4,
-        },
+        }),
     ),
-    (b"listen 1 2 1 3 4", VectorFault::BadShape(0)),
-    (b"0 1 2 -1 3 4", VectorFault::BadShape(6)),
-    (b"0 1 x 1 3 4", VectorFault::BadShape(4)),
-    (b"1 3 4 0 1 2", VectorFault::ActionMismatch(0)),
-    (b"0 1 2 0 1 2", VectorFault::ActionMismatch(6)),
-    (b"0 1 2 2 3 4", VectorFault::ActionMismatch(6)),
-    (b"0 1 2 1 3", VectorFault::Truncated(9)),
-    (b"0 1 2 1\n", VectorFault::Truncated(8)),
-    (b"", VectorFault::WrongVectorCount(0)),
-    (b"0 1 2", VectorFault::WrongVectorCount(5)),
-    (b"0 1 2 1 3 4 2 5 6", VectorFault::WrongVectorCount(12)),
-    (b"0 1 2 1 3 4 x", VectorFault::WrongVectorCount(12)),
+    (b"listen 1 2 1 3 4", Err(VectorFault::BadShape(0))),
+    (b"0 1 2 -1 3 4", Err(VectorFault::BadShape(6))),
+    (b"0 1 x 1 3 4", Err(VectorFault::BadShape(4))),
+    (b"1 3 4 0 1 2", Err(VectorFault::ActionMismatch(0))),
+    (b"0 1 2 0 1 2", Err(VectorFault::ActionMismatch(6))),
+    (b"0 1 2 2 3 4", Err(VectorFault::ActionMismatch(6))),
+    (b"0 1 2 1 3", Err(VectorFault::Truncated(9))),
+    (b"0 1 2 1\n", Err(VectorFault::Truncated(8))),
+    (b"", Err(VectorFault::WrongVectorCount(0))),
+    (b"0 1 2", Err(VectorFault::WrongVectorCount(5))),
+    (b"0 1 2 1 3 4 2 5 6", Err(VectorFault::WrongVectorCount(12))),
+    (b"0 1 2 1 3 4 x", Err(VectorFault::WrongVectorCount(12))),
 ];
 
 #[test]
-fn refused_action_vectors(rt: HostRuntime) {
-    for &(text, want) in REFUSED {
-        expect_eq!(rt; read(rt.alloc(), text), Err(want));
+fn action_vectors(rt: HostRuntime) {
+    for &(text, want) in READ {
+        expect_eq!(rt; read(rt.alloc(), text), want, text);
     }
 }
 
@@ -111,17 +113,6 @@ fn is_alike(alloc: Global, text: &[u8], most: usize) -> bool {
     found == slice && failures == 0
 }
 
-/// In pieces of any size, and cut at any length, a source is read as a slice is.
-#[test]
-fn action_vectors_cut_anywhere(rt: HostRuntime) {
-    for len in 0..=VECTORS.len() {
-        let (front, _) = VECTORS.split_at(len);
-        for most in [1usize, 3, 4096] {
-            expect_eq!(rt; is_alike(rt.alloc(), front, most), true, len);
-        }
-    }
-}
-
 const MISMATCH: SourceFault<VectorFault> = SourceFault::Refused(VectorFault::ActionMismatch(0));
 
 /// Texts, and the fault, failures and reads where their source fails after them, in pieces of one byte and whole.
@@ -132,9 +123,16 @@ const FAILED: &[(&[u8], SourceFault<VectorFault>, u64, u64, u64)] = &[
     (b"1 2", MISMATCH, 0, 2, 1),
 ];
 
-/// A read that fails midway, or at the end, is named, and the source isn't read again; a text that is refused before is refused.
+/// In pieces of any size, and cut at any length, a source is read as a slice is. A read that fails midway, or at the end, is named, and the
+/// source isn't read again; a text that is refused before is refused.
 #[test]
-fn failed_action_vectors(rt: HostRuntime) {
+fn action_vectors_in_pieces(rt: HostRuntime) {
+    for len in 0..=VECTORS.len() {
+        let (front, _) = VECTORS.split_at(len);
+        for most in [1usize, 3, 4096] {
+            expect_eq!(rt; is_alike(rt.alloc(), front, most), true, len);
+        }
+    }
     for &(text, fault, failures, single_reads, whole_reads) in FAILED {
         for (most, reads) in [(1usize, single_reads), (4096, whole_reads)] {
             let found = read_from(rt.alloc(), Pieces::new(text, most, true));
@@ -150,12 +148,6 @@ fn graph_of(alloc: Global) -> Option<([usize; 3], Option<usize>)> {
     Some((counts, action_of(&graph, 999)))
 }
 
-/// As many actions as a model may have: each has a node that takes it.
-#[test]
-fn most_actions(rt: HostRuntime) {
-    expect_eq!(rt; graph_of(rt.alloc()), Some(([1000, 1000, 1], Some(999))));
-}
-
 /// Whether VECTORS is written as this text.
 fn writes(alloc: Global, want: &[u8]) -> Option<bool> {
     let graph = Graph::of_actions(alloc, 2).ok()?;
@@ -165,8 +157,10 @@ fn writes(alloc: Global, want: &[u8]) -> Option<bool> {
     Some(is_written(&graph, &vectors, &mut sink, true, want))
 }
 
+/// As many actions as a model may have: each has a node that takes it.
 #[test]
-fn written_action_vectors(rt: HostRuntime) {
+fn graphs_of_actions(rt: HostRuntime) {
+    expect_eq!(rt; graph_of(rt.alloc()), Some(([1000, 1000, 1], Some(999))));
     let want = b"0\n1.5 -2.25\n\n1\n-3 0.5\n\n".as_slice();
     expect_eq!(rt; writes(rt.alloc(), want), Some(true));
 }

@@ -65,84 +65,75 @@ fn read_from(
     (found, (source.failures, source.reads))
 }
 
-const ACCEPTED: &[(&[u8], Option<Last>)] = &[
-    (b"# none\n", None),
-    (POINTS, Some(([1_000_000, 0], 2_000_000, [NONE, 0], 2))),
+/// Texts, and what is read of them, or how they are refused.
+const READ: &[(&[u8], Result<Option<Last>, PointFault>)] = &[
+    (b"# none\n", Ok(None)),
+    (POINTS, Ok(Some(([1_000_000, 0], 2_000_000, [NONE, 0], 2)))),
     (
         b"0 .8500009 .1499999 -.0000011 0 -",
-        Some(([850_000, 149_999], -1, [0, NONE], 1)),
+        Ok(Some(([850_000, 149_999], -1, [0, NONE], 1))),
     ),
     (
         b"0 0.0000010 0 10000000 - -",
-        Some(([1, 0], 10_000_000_000_000, [NONE, NONE], 1)),
+        Ok(Some(([1, 0], 10_000_000_000_000, [NONE, NONE], 1))),
     ),
     (
         b"0 0 1.000 1e-9 0 0 1 1 0 - 1 - -",
-        Some(([1_000_000, 0], -1_000_000, [NONE, NONE], 2)),
+        Ok(Some(([1_000_000, 0], -1_000_000, [NONE, NONE], 2))),
     ),
-];
-
-#[test]
-fn accepted_points(rt: HostRuntime) {
-    for &(text, want) in ACCEPTED {
-        expect_eq!(rt; read(rt.alloc(), text), Ok(want));
-    }
-}
-
-const REFUSED: &[(&[u8], PointFault)] = &[
-    (b"0 1 0 ;", PointFault::Token(TokenFault::BadByte(6))),
+    (b"0 1 0 ;", Err(PointFault::Token(TokenFault::BadByte(6)))),
     (
         b"0 1.0000001 0",
-        PointFault::Number {
+        Err(PointFault::Number {
             fault: NumberFault::TooLarge,
             place: 2,
-        },
+        }),
     ),
     (
         b"0 1 0 - 1e8",
-        PointFault::Number {
+        Err(PointFault::Number {
             fault: NumberFault::TooLarge,
             place: 6,
-        },
+        }),
     ),
-    (b"x 1 0", PointFault::BadShape(0)),
-    (b"0 +1 0", PointFault::BadShape(2)),
-    (b"0 1 0 - - 5", PointFault::BadShape(6)),
-    (b"0 1 0 5 Y", PointFault::BadShape(8)),
-    (b"0 1 0 5 -1", PointFault::BadShape(8)),
-    (b"0 1 0 5 - -1 1 0", PointFault::BadShape(10)),
-    (b"1 1 0", PointFault::PointOutOfOrder(0)),
+    (b"x 1 0", Err(PointFault::BadShape(0))),
+    (b"0 +1 0", Err(PointFault::BadShape(2))),
+    (b"0 1 0 - - 5", Err(PointFault::BadShape(6))),
+    (b"0 1 0 5 Y", Err(PointFault::BadShape(8))),
+    (b"0 1 0 5 -1", Err(PointFault::BadShape(8))),
+    (b"0 1 0 5 - -1 1 0", Err(PointFault::BadShape(10))),
+    (b"1 1 0", Err(PointFault::PointOutOfOrder(0))),
     (
         b"99999999999999999999999 1 0",
-        PointFault::PointOutOfOrder(0),
+        Err(PointFault::PointOutOfOrder(0)),
     ),
-    (b"0 1 0 5 - - 2", PointFault::PointOutOfOrder(12)),
-    (b"0 0.0000009 0", PointFault::WrongMass(12)),
-    (b"0 1 0.000001", PointFault::WrongMass(4)),
+    (b"0 1 0 5 - - 2", Err(PointFault::PointOutOfOrder(12))),
+    (b"0 0.0000009 0", Err(PointFault::WrongMass(12))),
+    (b"0 1 0.000001", Err(PointFault::WrongMass(4))),
     (
         b"0 1 0 5 0 1",
-        PointFault::NextOutOfRange {
+        Err(PointFault::NextOutOfRange {
             point: 0,
             action: 0,
             observation: 1,
-        },
+        }),
     ),
     (
         b"0 1 0 5 - 1 1 0 1 5 99999999999999999999999 2",
-        PointFault::NextOutOfRange {
+        Err(PointFault::NextOutOfRange {
             point: 1,
             action: 0,
             observation: 0,
-        },
+        }),
     ),
-    (b"0 1", PointFault::Truncated(3)),
-    (b"0 1 0 5 - ", PointFault::Truncated(10)),
+    (b"0 1", Err(PointFault::Truncated(3))),
+    (b"0 1 0 5 - ", Err(PointFault::Truncated(10))),
 ];
 
 #[test]
-fn refused_points(rt: HostRuntime) {
-    for &(text, want) in REFUSED {
-        expect_eq!(rt; read(rt.alloc(), text), Err(want));
+fn points(rt: HostRuntime) {
+    for &(text, want) in READ {
+        expect_eq!(rt; read(rt.alloc(), text), want, text);
     }
 }
 
@@ -156,17 +147,6 @@ fn is_alike(alloc: Global, text: &[u8], most: usize) -> bool {
     found == slice && failures == 0
 }
 
-/// In pieces of any size, and cut at any length, a source is read as a slice is.
-#[test]
-fn points_cut_anywhere(rt: HostRuntime) {
-    for len in 0..=POINTS.len() {
-        let (front, _) = POINTS.split_at(len);
-        for most in [1usize, 3, 4096] {
-            expect_eq!(rt; is_alike(rt.alloc(), front, most), true, len);
-        }
-    }
-}
-
 const WRONG_ORDER: SourceFault<PointFault> = SourceFault::Refused(PointFault::PointOutOfOrder(0));
 
 /// Texts, and the fault, failures and reads where their source fails after them, in pieces of one byte and whole.
@@ -176,9 +156,16 @@ const FAILED: &[(&[u8], SourceFault<PointFault>, u64, u64, u64)] = &[
     (b"1 1", WRONG_ORDER, 0, 2, 1),
 ];
 
-/// A read that fails midway, or at the end, is named, and the source isn't read again; a text that is refused before is refused.
+/// In pieces of any size, and cut at any length, a source is read as a slice is. A read that fails midway, or at the end, is named, and the
+/// source isn't read again; a text that is refused before is refused.
 #[test]
-fn failed_points(rt: HostRuntime) {
+fn points_in_pieces(rt: HostRuntime) {
+    for len in 0..=POINTS.len() {
+        let (front, _) = POINTS.split_at(len);
+        for most in [1usize, 3, 4096] {
+            expect_eq!(rt; is_alike(rt.alloc(), front, most), true, len);
+        }
+    }
     for &(text, fault, failures, single_reads, whole_reads) in FAILED {
         for (most, reads) in [(1usize, single_reads), (4096, whole_reads)] {
             let found = read_from(rt.alloc(), Pieces::new(text, most, true));

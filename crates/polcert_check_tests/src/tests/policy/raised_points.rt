@@ -60,10 +60,6 @@ fn raised_as_far_as_they_can_be(rt: HostRuntime) {
             Some((by, true))
         );
     }
-}
-
-#[test]
-fn raised_into_a_full_sink(rt: HostRuntime) {
     let mut buffer = [0u8; 8];
     let found = raised_text(
         rt.alloc(),

@@ -1,9 +1,9 @@
 //! Policy files that come from a source, in any pieces.
 
-use super::{action_of, next_of, value_at};
+use super::{action_of, next_of, read_down, read_up, two_values};
 use polcert_policy::{
-    Graph, GraphFault, VectorFault, Vectors, read_graph, read_graph_from, read_vectors,
-    read_vectors_from, read_vectors_up, read_vectors_up_from,
+    Graph, GraphFault, VectorFault, read_graph, read_graph_from, read_vectors_from,
+    read_vectors_up_from,
 };
 use polcert_testing::{Pieces, expect_eq};
 use polcert_text::{SourceFault, TokenFault};
@@ -36,24 +36,24 @@ fn first_node(
     (found, (source.failures, source.reads))
 }
 
-/// The first value of the vectors of `GRAPH` over two states, or how the text is refused.
-type Value = Result<Option<i64>, SourceFault<VectorFault>>;
+/// The values of the first vector of those of `GRAPH` over two states, or how the text is refused.
+type Values = Result<Option<[i64; 2]>, SourceFault<VectorFault>>;
 
-/// Such a value, and how often the source failed and was read.
-fn first_value(alloc: Global, mut source: Pieces<'_>) -> Option<(Value, (u64, u64))> {
+/// Such values, and how often the source failed and was read.
+fn first_values(alloc: Global, mut source: Pieces<'_>) -> Option<(Values, (u64, u64))> {
     let graph = read_graph(alloc, GRAPH, 2, 2).ok()?;
     let found = match read_vectors_from(alloc, &mut source, &graph, 2) {
-        Ok(vectors) => Ok(value_at(&vectors, 0, 0)),
+        Ok(vectors) => Ok(two_values(&vectors)),
         Err(fault) => Err(fault),
     };
     Some((found, (source.failures, source.reads)))
 }
 
 /// The same where values are rounded up.
-fn first_value_up(alloc: Global, mut source: Pieces<'_>) -> Option<(Value, (u64, u64))> {
+fn first_values_up(alloc: Global, mut source: Pieces<'_>) -> Option<(Values, (u64, u64))> {
     let graph = read_graph(alloc, GRAPH, 2, 2).ok()?;
     let found = match read_vectors_up_from(alloc, &mut source, &graph, 2) {
-        Ok(vectors) => Ok(value_at(&vectors, 0, 0)),
+        Ok(vectors) => Ok(two_values(&vectors)),
         Err(fault) => Err(fault),
     };
     Some((found, (source.failures, source.reads)))
@@ -79,8 +79,8 @@ fn the_same_in_any_pieces(rt: HostRuntime) {
     for &(most, graph_reads, vector_reads) in READS {
         let found = first_node(rt.alloc(), Pieces::new(GRAPH, most, false));
         expect_eq!(rt; found, (Ok(node), (0, graph_reads)));
-        let found = first_value(rt.alloc(), Pieces::new(VECTORS, most, false));
-        expect_eq!(rt; found, Some((Ok(Some(-1_500_000)), (0, vector_reads))));
+        let found = first_values(rt.alloc(), Pieces::new(VECTORS, most, false));
+        expect_eq!(rt; found, Some((Ok(Some([-1_500_000, 2_000_000])), (0, vector_reads))));
     }
 }
 
@@ -97,17 +97,6 @@ const FAILED_GRAPHS: &[(&[u8], bool, SourceFault<GraphFault>, u64, u64, u64)] = 
     (b"0 1 1\n", false, EARLY, 0, 7, 2),
 ];
 
-/// A text that is refused is read no further than to the token that is wrong, and a source that failed is not read again.
-#[test]
-fn refused_or_failed_graphs(rt: HostRuntime) {
-    for &(text, fails, fault, failures, single_reads, whole_reads) in FAILED_GRAPHS {
-        for (most, reads) in [(1usize, single_reads), (4096, whole_reads)] {
-            let found = first_node(rt.alloc(), Pieces::new(text, most, fails));
-            expect_eq!(rt; found, (Err(fault), (failures, reads)));
-        }
-    }
-}
-
 const MISMATCH: SourceFault<VectorFault> = SourceFault::Refused(VectorFault::ActionMismatch(0));
 
 /// The same of texts of vectors, whose source fails.
@@ -116,11 +105,18 @@ const FAILED_VECTORS: &[(&[u8], SourceFault<VectorFault>, u64, u64, u64)] = &[
     (b"0 2", MISMATCH, 0, 2, 1),
 ];
 
+/// A text that is refused is read no further than to the token that is wrong, and a source that failed is not read again.
 #[test]
-fn refused_or_failed_vectors(rt: HostRuntime) {
+fn refused_or_failed(rt: HostRuntime) {
+    for &(text, fails, fault, failures, single_reads, whole_reads) in FAILED_GRAPHS {
+        for (most, reads) in [(1usize, single_reads), (4096, whole_reads)] {
+            let found = first_node(rt.alloc(), Pieces::new(text, most, fails));
+            expect_eq!(rt; found, (Err(fault), (failures, reads)));
+        }
+    }
     for &(text, fault, failures, single_reads, whole_reads) in FAILED_VECTORS {
         for (most, reads) in [(1usize, single_reads), (4096, whole_reads)] {
-            let found = first_value(rt.alloc(), Pieces::new(text, most, true));
+            let found = first_values(rt.alloc(), Pieces::new(text, most, true));
             expect_eq!(rt; found, Some((Err(fault), (failures, reads))));
         }
     }
@@ -132,13 +128,13 @@ fn rounded_up_in_any_pieces(rt: HostRuntime) {
     let text = b"1 -1.5000009 0 0 0 0".as_slice();
     for (most, reads) in [(1usize, 21u64), (3, 8), (4096, 2)] {
         let found = [
-            first_value(rt.alloc(), Pieces::new(text, most, false)),
-            first_value_up(rt.alloc(), Pieces::new(text, most, false)),
-            first_value_up(rt.alloc(), Pieces::new(text, most, true)),
+            first_values(rt.alloc(), Pieces::new(text, most, false)),
+            first_values_up(rt.alloc(), Pieces::new(text, most, false)),
+            first_values_up(rt.alloc(), Pieces::new(text, most, true)),
         ];
         let want = [
-            Some((Ok(Some(-1_500_001)), (0, reads))),
-            Some((Ok(Some(-1_500_000)), (0, reads))),
+            Some((Ok(Some([-1_500_001, 0])), (0, reads))),
+            Some((Ok(Some([-1_500_000, 0])), (0, reads))),
             Some((Err(SourceFault::Device), (1, reads))),
         ];
         expect_eq!(rt; found, want);
@@ -153,10 +149,27 @@ fn slice_node(alloc: Global, text: &[u8]) -> Result<Node, SourceFault<GraphFault
     }
 }
 
+/// Whether a source gives what a slice gives.
+fn is_same(source: Values, slice: Result<Option<[i64; 2]>, VectorFault>) -> bool {
+    match slice {
+        Ok(values) => source == Ok(values),
+        Err(fault) => source == Err(SourceFault::Refused(fault)),
+    }
+}
+
+/// Whether the text is read in pieces of this size as its slice is, rounded down and up.
+fn is_alike(alloc: Global, text: &[u8], most: usize) -> Option<bool> {
+    let graph = read_graph(alloc, GRAPH, 2, 2).ok()?;
+    let (down, _) = first_values(alloc, Pieces::new(text, most, false))?;
+    let (up, _) = first_values_up(alloc, Pieces::new(text, most, false))?;
+    let is_down = is_same(down, read_down(alloc, text, &graph));
+    Some(is_down && is_same(up, read_up(alloc, text, &graph)))
+}
+
 /// What reading a graph over two actions and two observations answers where it is cut at any length is that of its slice, in pieces
 /// of any size.
 #[test]
-fn graphs_cut_anywhere(rt: HostRuntime) {
+fn cut_anywhere(rt: HostRuntime) {
     for len in 0..=GRAPH.len() {
         let (front, _) = GRAPH.split_at(len);
         let slice = slice_node(rt.alloc(), front);
@@ -165,36 +178,6 @@ fn graphs_cut_anywhere(rt: HostRuntime) {
             expect_eq!(rt; (found, failures), (slice, 0), len);
         }
     }
-}
-
-/// The first value of the vectors that the slice is, or how it is refused.
-fn slice_value(alloc: Global, text: &[u8], graph: &Graph) -> Value {
-    match read_vectors(alloc, text, graph, 2) {
-        Ok(vectors) => Ok(value_at(&vectors, 0, 0)),
-        Err(fault) => Err(SourceFault::Refused(fault)),
-    }
-}
-
-/// The same where values are rounded up.
-fn slice_value_up(alloc: Global, text: &[u8], graph: &Graph) -> Value {
-    match read_vectors_up(alloc, text, graph, 2) {
-        Ok(vectors) => Ok(value_at(&vectors, 0, 0)),
-        Err(fault) => Err(SourceFault::Refused(fault)),
-    }
-}
-
-/// Whether the text is read in pieces of this size as its slice is, rounded down and up.
-fn is_alike(alloc: Global, text: &[u8], most: usize) -> Option<bool> {
-    let graph = read_graph(alloc, GRAPH, 2, 2).ok()?;
-    let (down, _) = first_value(alloc, Pieces::new(text, most, false))?;
-    let (up, _) = first_value_up(alloc, Pieces::new(text, most, false))?;
-    let is_down = down == slice_value(alloc, text, &graph);
-    Some(is_down && up == slice_value_up(alloc, text, &graph))
-}
-
-/// The same of vectors, rounded down and up.
-#[test]
-fn vectors_cut_anywhere(rt: HostRuntime) {
     for len in 0..=VECTORS.len() {
         let (front, _) = VECTORS.split_at(len);
         for most in [1usize, 3, 4096] {
