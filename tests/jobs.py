@@ -18,6 +18,7 @@ from runner import TESTS, processors
 LAST_LINE = re.compile(r'(\d+) passed, (\d+) failed')
 KEPT = 400  # lines of what a failed job said that are printed
 OTHER_STATUS = 9  # of a job that tests/runners does not name
+SECONDS = 5400  # after which a job is taken for one that never ends
 
 
 class Job(NamedTuple):
@@ -27,6 +28,7 @@ class Job(NamedTuple):
     words: Sequence[Union[str, 'os.PathLike[str]']]
     folder: Optional[pathlib.Path] = None  # in which it runs, if that is another
     shows: Callable[[str], bool] = lambda line: line.startswith('skipped: ')  # the lines that are printed although it passes
+    seconds: float = SECONDS  # that it may take
 
 
 class Outcome(NamedTuple):
@@ -59,11 +61,14 @@ def outcome_of(job: Job, show: Callable[[str], None]) -> Outcome:
     """Runs a job, and shows some of its lines as they come. One that ends with another status than its counts say failed once more."""
     begin, said = time.monotonic(), []
     with subprocess.Popen(job.words, cwd=job.folder, stdin=subprocess.DEVNULL, stdout=subprocess.PIPE, stderr=subprocess.STDOUT) as run:
+        limit = threading.Timer(job.seconds, run.kill)
+        limit.start()
         assert run.stdout
         for line in run.stdout:
             said.append(line.decode(errors='replace').rstrip('\n'))
             if job.shows(said[-1]):
                 show(said[-1])
+        limit.cancel()
     last = LAST_LINE.fullmatch(said[-1]) if said else None
     passed, failed = (int(last[1]), int(last[2])) if last else (0, 1)
     return Outcome(said, passed, failed if (run.returncode != 0) == (failed > 0) else failed + 1, time.monotonic() - begin)

@@ -58,6 +58,10 @@ class Runs(JobTest):
             self.assertEqual(len([line for line in ended.lines if line.startswith("flaky: ")]), 2, ended.lines)
             Path(self.folder / "tried").unlink()
 
+    def test_one_that_never_ends(self) -> None:
+        ended = self.ended([self.job("one", "exec sleep 3600")._replace(seconds=0.1)], [])
+        self.assertEqual((ended.status, ended.lines[-1]), (OTHER_STATUS, "0 passed, 1 failed"))
+
     def test_ends_that_are_none(self) -> None:
         for script in ("true", "echo 3 passed, 0 failed; false", "echo 3 passed; echo no", "echo 2 passed, 1 failed"):
             ended = self.ended([self.job("one", script)], [])
