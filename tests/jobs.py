@@ -84,7 +84,8 @@ class Jobs:
 
     def print(self, *lines: str) -> None:
         with self.printing:
-            print(*lines, sep='\n', flush=True)
+            for line in lines:
+                print(line, flush=True)
 
     def run(self, job: Job) -> None:
         """Runs a job, and notes it if it failed."""

@@ -46,9 +46,9 @@ fn action_of(graph: &Graph, node: usize) -> Option<usize> {
     }
 }
 
-/// The two values of the first vector over two states.
-fn two_values(vectors: &Vectors) -> Option<[i64; 2]> {
-    if vectors.states() == 2 {
+/// The two values of the first of so many vectors over two states.
+fn two_values(vectors: &Vectors, nodes: usize) -> Option<[i64; 2]> {
+    if vectors.nodes() == nodes && vectors.states() == 2 {
         Some([value_at(vectors, 0, 0)?, value_at(vectors, 0, 1)?])
     } else {
         None
@@ -61,7 +61,7 @@ type Found = Result<Option<[i64; 2]>, VectorFault>;
 /// What the text is as such vectors, whose values are rounded down.
 fn read_down(alloc: Global, text: &[u8], graph: &Graph) -> Found {
     match read_vectors(alloc, text, graph, 2) {
-        Ok(vectors) => Ok(two_values(&vectors)),
+        Ok(vectors) => Ok(two_values(&vectors, graph.nodes())),
         Err(fault) => Err(fault),
     }
 }
@@ -69,7 +69,7 @@ fn read_down(alloc: Global, text: &[u8], graph: &Graph) -> Found {
 /// The same of values rounded up.
 fn read_up(alloc: Global, text: &[u8], graph: &Graph) -> Found {
     match read_vectors_up(alloc, text, graph, 2) {
-        Ok(vectors) => Ok(two_values(&vectors)),
+        Ok(vectors) => Ok(two_values(&vectors, graph.nodes())),
         Err(fault) => Err(fault),
     }
 }
@@ -303,7 +303,7 @@ fn can_lower(vectors: &Vectors) -> bool
 fn lowered_values(alloc: Global, vectors: &Vectors) -> Option<[[i64; 2]; 2]> {
     if can_lower(vectors) {
         let lowered = vectors.shifted(alloc, -1).ok()?;
-        Some([two_values(&lowered)?, two_values(vectors)?])
+        Some([two_values(&lowered, 1)?, two_values(vectors, 1)?])
     } else {
         None
     }

@@ -166,6 +166,30 @@ const NUMBERS: &[(&[u8], &[(Number, i128)])] = &[
             (Number::O(0, 0, 5), 0),
         ],
     ),
+    (
+        b"discount: 1 values: reward states: 3 actions: 1 observations: 1 T: 0 identity O: 0 uniform T: 0 uniform",
+        &[
+            (Number::TScale, 3_000_000),
+            (Number::T(0, 0, 0), 1_000_000),
+            (Number::T(0, 1, 0), 1_000_000),
+            (Number::T(0, 2, 2), 1_000_000),
+        ],
+    ),
+    // single cells after a row of `uniform`
+    (
+        b"discount: 1 values: reward states: 6 actions: 1 observations: 1 T: 0 identity O: 0 uniform T: 0 : 0 uniform T: 0 : 0 : 0 0.5 T: 0 : 0 : 1 0 T: 0 : 0 : 2 0 T: 0 : 0 : 0 0.5",
+        &[
+            (Number::TScale, 6_000_000),
+            (Number::T(0, 0, 0), 3_000_000),
+            (Number::T(0, 0, 1), 0),
+            (Number::T(0, 0, 2), 0),
+            (Number::T(0, 0, 3), 1_000_000),
+            (Number::T(0, 0, 4), 1_000_000),
+            (Number::T(0, 0, 5), 1_000_000),
+            (Number::T(0, 5, 5), 6_000_000),
+            (Number::T(0, 5, 4), 0),
+        ],
+    ),
     // shares of the start where its probabilities differ
     (
         b"discount: 1 values: reward states: 4 actions: 1 observations: 1 start: 0 0.5 0.25 0.25 T: 0 identity O: 0 uniform",

@@ -43,7 +43,7 @@ type Values = Result<Option<[i64; 2]>, SourceFault<VectorFault>>;
 fn first_values(alloc: Global, mut source: Pieces<'_>) -> Option<(Values, (u64, u64))> {
     let graph = read_graph(alloc, GRAPH, 2, 2).ok()?;
     let found = match read_vectors_from(alloc, &mut source, &graph, 2) {
-        Ok(vectors) => Ok(two_values(&vectors)),
+        Ok(vectors) => Ok(two_values(&vectors, graph.nodes())),
         Err(fault) => Err(fault),
     };
     Some((found, (source.failures, source.reads)))
@@ -53,7 +53,7 @@ fn first_values(alloc: Global, mut source: Pieces<'_>) -> Option<(Values, (u64, 
 fn first_values_up(alloc: Global, mut source: Pieces<'_>) -> Option<(Values, (u64, u64))> {
     let graph = read_graph(alloc, GRAPH, 2, 2).ok()?;
     let found = match read_vectors_up_from(alloc, &mut source, &graph, 2) {
-        Ok(vectors) => Ok(two_values(&vectors)),
+        Ok(vectors) => Ok(two_values(&vectors, graph.nodes())),
         Err(fault) => Err(fault),
     };
     Some((found, (source.failures, source.reads)))
